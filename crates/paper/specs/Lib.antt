@@ -1,0 +1,16 @@
+-- the rules, in the order of the paper
+pub mod Basics
+pub mod Answers
+pub mod Text
+pub mod Board
+pub mod Certificate
+pub mod Releases
+pub mod Scheduler
+pub mod Check
+pub mod Run
+pub mod Output
+pub mod Cases
+-- laws of them
+pub mod Tests
+pub mod Reading
+pub mod Ranges
