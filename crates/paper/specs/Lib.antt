@@ -10,7 +10,5 @@ pub mod Check
 pub mod Run
 pub mod Output
 pub mod Cases
--- laws of them
-pub mod Tests
-pub mod Reading
-pub mod Ranges
+-- laws of them, for the proofs above
+pub mod laws

@@ -7,7 +7,7 @@ use Rattle.paper.specs.Text.{Read, good, bad, whole}
 use Rattle.paper.specs.Board.{Task, Board, noTask, task, readTask, readBoard}
 use Rattle.paper.specs.Releases.{Release, Releases, readRelease, readReleases}
 use Rattle.paper.specs.Run.{Both, readBoth}
-use Rattle.paper.specs.Reading.{Reads, In, Each, reads-give, reads-then, reads-times, reads-one, whole-good}
+use Rattle.paper.specs.laws.Reading.{Reads, In, Each, reads-give, reads-then, reads-times, reads-one, whole-good}
 
 pub record TaskIn (k : Task) : Type 0 where
   pub c : In 1 1000000 (k .c)
