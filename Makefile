@@ -1,0 +1,21 @@
+.PHONY: sample test bench soak timeline
+
+# check board A and print the verdict
+sample:
+	@rt check boardcheck >/dev/null && target/bin/boardcheck < boards/a.board
+
+# the gate
+test:
+	@.ci/run
+
+# the verified code beside plain Rust
+bench:
+	@host/bench.sh
+
+# random boards and damaged texts for longer than the gate
+soak:
+	@host/soak.sh
+
+# a run as a picture
+timeline:
+	@host/timeline.sh

@@ -1,0 +1,4 @@
+pub mod Columns
+pub mod Bound
+pub mod Verdicts
+pub mod Walked
