@@ -1,0 +1,20 @@
+-- `scheduler::due` meets its contract, by its two cases. Assumes nothing.
+use borrow.Author.Tests.{lt-ltb, le-ltb}
+use borrow.Author.Needs.{needs}
+use Rattle.scheduler.proofs.due.Statement.{statement}
+use Rattle.scheduler.proofs.due.Tie as tie
+
+mul-result : tie.Need-mul-result
+mul-result c = search needs
+
+shared-slice-read-result : tie.Need-shared-slice-read-result
+shared-slice-read-result c = search needs
+
+returns : tie.Need-returns
+returns c = simp (lt-ltb _ _ (c .before .before .if1 .taken))
+
+returns-2 : tie.Need-returns-2
+returns-2 c = simp (le-ltb _ _ (c .if1 .left))
+
+pub due-spec : {M : Type 1} → statement M
+due-spec = tie.close (tie.spec mul-result shared-slice-read-result returns returns-2)

@@ -1,0 +1,4 @@
+pub mod State
+pub mod Laws
+pub mod Tick
+pub mod Kept
