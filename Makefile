@@ -1,4 +1,4 @@
-.PHONY: sample test bench soak timeline
+.PHONY: sample test bench soak timeline economy
 
 # check board A and print the verdict
 sample:
@@ -19,3 +19,7 @@ soak:
 # a run as a picture
 timeline:
 	@host/timeline.sh
+
+# the table of docs/PROOFS.md, with the seconds of the last gate if its output is given as LOG=
+economy:
+	@tools/economy.sh $(LOG)

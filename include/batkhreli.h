@@ -37,8 +37,14 @@ extern "C" {
 /* The most releases of a list, and so the most responses. */
 #define BATKHRELI_RELEASES_MAX 1000u
 
-/* The stack that a caller keeps free for a call, in bytes: the tests hold the measured need below it. */
-#define BATKHRELI_STACK_MAX 65536u
+/* The seats of a table: one for each processor that a board can have. */
+#define BATKHRELI_SEATS 8u
+
+/*
+ * The stack that a caller keeps free for a call, in bytes. Measured: 12,728 for batkhreli_check, 13,512 for batkhreli_slacks,
+ * 67,992 for batkhreli_run, 70,472 for batkhreli_table; the tests measure again and fail above this figure.
+ */
+#define BATKHRELI_STACK_MAX 98304u
 
 /* Checks the proposed bounds of a board's text. */
 uint32_t batkhreli_check(const uint8_t *board, size_t length, uint32_t *place, uint32_t *detail);
@@ -58,6 +64,16 @@ uint32_t batkhreli_slacks(const uint8_t *board, size_t length, uint64_t *slacks,
  */
 uint32_t batkhreli_run(const uint8_t *text, size_t length, uint32_t *places, size_t places_length,
                        uint32_t *place, uint32_t *detail);
+
+/*
+ * Runs a board and a release list as batkhreli_run does, up to tick `tick` and with it, and tells who sits on which
+ * processor in that tick: after 0 the BATKHRELI_SEATS seats hold the task on each processor, 0 for an idle or absent one,
+ * and all hold 0 if `tick` is past the run's last. After any other code the seats keep what they had; a run that overruns
+ * only after `tick` is answered by 0, and 10 is never answered. Ticks are made one after the other, so a late one costs
+ * as much as a run up to it. `seats` is never NULL.
+ */
+uint32_t batkhreli_table(const uint8_t *text, size_t length, uint32_t tick, uint32_t seats[BATKHRELI_SEATS],
+                         uint32_t *place, uint32_t *detail);
 
 #ifdef __cplusplus
 }

@@ -62,6 +62,28 @@ static int good(const struct head *head, const uint8_t *text, const void *wanted
     return same;
 }
 
+/*
+ * The same of the table past the run's end: it is refused as the run is, but for the places, and nobody sits.
+ */
+static int good_table(const struct head *head, const uint8_t *text)
+{
+    uint32_t *seats = block(BATKHRELI_SEATS * sizeof *seats);
+    uint32_t *place = block(sizeof *place), *detail = block(sizeof *detail);
+    uint32_t code, k;
+    int same;
+
+    for (k = 0; k < BATKHRELI_SEATS; k++)
+        seats[k] = BEFORE + k;
+    code = batkhreli_table(text, head->length, UINT32_MAX, seats, place, detail);
+    same = head->code == 10 || (code == head->code && *place == head->place && *detail == head->detail);
+    for (k = 0; k < BATKHRELI_SEATS; k++)
+        same = same && seats[k] == (code == 0 ? 0 : BEFORE + k);
+    free(seats);
+    free(place);
+    free(detail);
+    return same;
+}
+
 int main(int count, char **words)
 {
     FILE *corpus = count == 2 ? fopen(words[1], "rb") : NULL;
@@ -75,7 +97,7 @@ int main(int count, char **words)
         void *wanted = taken(corpus, head.places * (head.run ? sizeof(uint32_t) : sizeof(uint64_t)));
 
         texts++;
-        wrong += !good(&head, text, wanted);
+        wrong += !good(&head, text, wanted) || (head.run && !good_table(&head, text));
         free(text);
         free(wanted);
     }

@@ -22,6 +22,7 @@ static uint8_t board[BATKHRELI_TEXT_MAX], run[BATKHRELI_TEXT_MAX];
 static size_t board_length, run_length;
 static uint64_t slacks[BATKHRELI_TASKS_MAX];
 static uint32_t places[BATKHRELI_RELEASES_MAX];
+static uint32_t seats[BATKHRELI_SEATS];
 static uint32_t code, place, detail;
 
 static void *nothing(void *unused)
@@ -44,6 +45,12 @@ static void *with_slacks(void *unused)
 static void *whole_run(void *unused)
 {
     code = batkhreli_run(run, run_length, places, BATKHRELI_RELEASES_MAX, &place, &detail);
+    return unused;
+}
+
+static void *last_table(void *unused)
+{
+    code = batkhreli_table(run, run_length, UINT32_MAX, seats, &place, &detail);
     return unused;
 }
 
@@ -102,5 +109,6 @@ int main(int count, char **names)
     good = measured("batkhreli_check", check);
     good = measured("batkhreli_slacks", with_slacks) && good;
     good = measured("batkhreli_run", whole_run) && good;
+    good = measured("batkhreli_table", last_table) && good;
     return !good;
 }

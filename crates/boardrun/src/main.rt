@@ -1,9 +1,9 @@
 // Runs the board and the release list on standard input and prints the answer and the responses.
 ghost use Prim.Native.Nat.{_+_, _*_, _≤_};
 ghost use lib.ListN.{length, take};
-ghost use Rattle.paper.specs.Output.{printedAll};
+ghost use Rattle.paper.specs.Output.{printedAll, runPrints};
 ghost use Rattle.text.specs.Printing.{Placed};
-ghost use Rattle.boardrun.specs.Report.{Reported};
+ghost use Rattle.console.specs.Report.{Reported};
 
 // A line for each of the first `count` responses, from `at` on, and where they end.
 fn print_responses(out: &mut [u8], at: usize, places: &[u32], count: usize) -> usize
@@ -23,7 +23,7 @@ fn print_responses(out: &mut [u8], at: usize, places: &[u32], count: usize) -> u
 // list can have.
 fn report(both: &[u8], out: &mut [u8]) -> usize
     requires { ⌜ 32768 ≤ length (now out) ⌝ }
-    ensures { λ r. ⌜ Reported (now (both .entry)) (now (out .entry)) (now (out .exit)) r ⌝ }
+    ensures { λ r. ⌜ Reported (runPrints (now (both .entry))) (now (out .entry)) (now (out .exit)) r ⌝ }
 {
     let mut places = [0u32; 1000];
     let finished = run::run(both, &mut places);
@@ -42,5 +42,7 @@ fn main() {
     }
     let mut out = [0u8; 32768];
     let end = report(&bytes[..input.length], &mut out);
-    io::write_all(libc::STDOUT_FILENO, &out[..end]);
+    if !io::write_all(libc::STDOUT_FILENO, &out[..end]) {
+        os::fail(b"boardrun: standard output");
+    }
 }

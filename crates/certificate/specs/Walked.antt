@@ -1,39 +1,32 @@
 -- The walk over the tasks of a board in arrays, seen from its middle: what is known after i tasks, and what one task more adds.
 -- Assumes nothing.
 use mathlib.Core.Path.{_≡_, refl, sym, ap, _∙_}
-use mathlib.Core.List.{List, [], _∷_, _++_, map, append-nil}
+use mathlib.Core.List.{List, [], _∷_, _++_, append-nil}
 use Prim.Native.Nat.{ℕ, zero, suc, _+_, _*_, _-_, _≤_, _<_, min}
 use native.Mathlib.Nat.{mul-le-mul, le-trans, sub-zero, zero-add, add-suc, suc-add, add-zero}
 use native.Mathlib.Numerals.{add-one}
 use native.Mathlib.Omega.{arith}
 use lib.ListN.{length, getD, set, length-append}
-use lib.Dec.{leb}
 use borrow.Author.Count.{below-more}
 use Rattle.paper.specs.Board.{Task}
-use Rattle.paper.specs.Certificate.{S, own, fastest, covered, charge, jobs, load, demand, need, slack, broken, judge, accepted, refused, walk}
-use Rattle.paper.specs.Basics.{sum, roundedUp}
+use Rattle.paper.specs.Certificate.{S, own, fastest, covers, covered, chargeAt, charge, countIn, jobs, load, demand, need, slack, broken, judge, accepted, refused, walk}
+use Rattle.paper.specs.Basics.{sum}
 use Rattle.paper.specs.laws.Loads.{S-next, load-next, rounded-most}
 use Rattle.paper.specs.laws.Judging.{uncoveredFrom, judge-deadline, judge-bound, judge-column, judge-fails, judge-passes, prefixed, prefixed-none, walk-on, walk-breaks}
 use Rattle.paper.specs.declared.Answer.{Answer}
 use Rattle.paper.specs.declared.Answer.the-variants.{Done, DeadlineAbovePeriod, BoundAboveDeadline, ColumnUncovered, BoundFails}
-use Rattle.quantity.specs.Quantity.{units, speed}
+use Rattle.quantity.specs.Quantity.{units, speed, speedsOf}
 use Rattle.quantity.specs.declared.Units.{Units}
 use Rattle.quantity.specs.declared.Speed.{Speed}
-use Rattle.board.specs.Packed.{padded, taskAt, tasksFrom, unpacked, Ranged}
-use Rattle.board.specs.Rules.{speeds-count}
+use Rattle.board.specs.Packed.{taskAt, tasksFrom, unpacked, Ranged}
+use Rattle.board.specs.Back.{padded-more}
+use Rattle.board.specs.Places.{tasks-length}
 use Rattle.board.specs.declared.Board.{Board}
 use Rattle.certificate.specs.declared.Judged.{Judged}
 use Rattle.certificate.specs.declared.columns.Columns.{Columns}
-use Rattle.certificate.specs.Columns.{speedsOf, Slow, Tables, own-slow}
+use Rattle.certificate.specs.Columns.{Slow, Tables}
+use Rattle.certificate.specs.Filling.{own-slow}
 use Rattle.certificate.specs.Verdicts.{packedSlacks, packedVerdict}
-
--- one more is stored after those that are there
-pub padded-more : {A : Type 0} (none : A) (f : ℕ → A) (n : ℕ) (xs : List ℕ) (x : ℕ)
-    → set (padded none n (map f xs)) (length xs) (f x) ≡ padded none n (map f (xs ++ (x ∷ [])))
-unfolding padded
-padded-more none f zero xs x = refl
-padded-more none f (suc n) [] x = refl
-padded-more none f (suc n) (y ∷ xs) x = ap (λ l. f y ∷ l) (padded-more none f n xs x)
 
 module _ (b : Board) where
   -- the paper's board
@@ -51,11 +44,6 @@ module _ (b : Board) where
   -- what the whole walk comes to
   abbrev pub wholeWalk : Judged
   wholeWalk = packedVerdict (walk (unpacked b .speeds) [] (unpacked b .tasks))
-
-  pub tasks-count : (k n : ℕ) → length (tasksFrom b k n) ≡ n
-  unfolding tasksFrom
-  tasks-count k zero = refl
-  tasks-count k (suc n) = ap suc (tasks-count (suc k) n)
 
   pub tasks-more : (k n : ℕ) → tasksFrom b k (suc n) ≡ tasksFrom b k n ++ (taskAt b (k + n) ∷ [])
   unfolding tasksFrom
@@ -121,11 +109,6 @@ module _ (b : Board) where
             rest = rw (a, add-one i) (sym (walk-on (speedsIn b) (w .passed) (aboveIn b i) (taskAt b i) _ x e) ∙ (rw d at r));
           }
 
--- as many speeds as processors
-pub speeds-in : (b : Board) → length (b .speeds) ≡ 8 → b .procs ≤ 8 → length (speedsIn b) ≡ b .procs
-unfolding unpacked
-speeds-in b e h = speeds-count b e h
-
 -- the ways out of task i, and the way on, in the order of the rules
 module _ (b : Board) (count : length (speedsIn b) ≡ b .procs) {slacks : List Units} {i : ℕ} (w : Walked b slacks i) (h : i < b .tasks) where
   abbrev here : Task
@@ -135,7 +118,7 @@ module _ (b : Board) (count : length (speedsIn b) ≡ b .procs) {slacks : List U
   Refusal a = packedVerdict (refused (a (i + 1))) ≡ wholeWalk b
 
   out : (a : ℕ → Answer) → judge (speedsIn b) (aboveIn b i) here ≡ broken (a (suc (length (aboveIn b i)))) → Refusal a
-  out a e = walk-broken b w h (a (i + 1)) (rw (add-one i) (rw (tasks-count b 0 i) at e))
+  out a e = walk-broken b w h (a (i + 1)) (rw (add-one i) (rw (tasks-length b 0 i) at e))
 
   pub out-deadline : here .t < here .d → Refusal DeadlineAbovePeriod
   out-deadline d = out DeadlineAbovePeriod (judge-deadline (speedsIn b) (aboveIn b i) here d)
@@ -146,7 +129,7 @@ module _ (b : Board) (count : length (speedsIn b) ≡ b .procs) {slacks : List U
 
     module _ (r : here .r ≤ here .d) (last : ℕ) (e : last ≡ min (b .procs) i) where
       m : last ≡ min (length (speedsIn b)) (length (aboveIn b i))
-      m = rw (count, tasks-count b 0 i) e
+      m = rw (count, tasks-length b 0 i) e
 
       pub out-column : (j : ℕ) → j ≤ last → uncoveredFrom (speedsIn b) here last 0 ≡ j → Refusal (λ task. ColumnUncovered task j)
       out-column j l f = out (λ task. ColumnUncovered task j) (judge-column (speedsIn b) (aboveIn b i) here d r j (rw m at l) (rw m at f))
@@ -163,19 +146,19 @@ module _ (b : Board) (count : length (speedsIn b) ≡ b .procs) {slacks : List U
 -- loads and the demand
 module _ (b : Board) where
   load-more : (R k : ℕ) → load (speedsIn b) (aboveIn b (k + 1)) R
-      ≡ load (speedsIn b) (aboveIn b k) R + roundedUp (R + taskAt b k .r - 1) (taskAt b k .t) * (taskAt b k .c + fastest (speedsIn b) - 1)
+      ≡ load (speedsIn b) (aboveIn b k) R + countIn R (taskAt b k .r) (taskAt b k .t) * chargeAt (fastest (speedsIn b)) (taskAt b k .c)
   unfolding jobs charge
   load-more R k = rw (add-one k, tasks-more b 0 k, zero-add) (load-next (speedsIn b) (aboveIn b k) (taskAt b k) R)
 
   -- the load with one more task above
   pub load-with : (R k : ℕ) (u : Units) (s : Speed) → u ≡ units (load (speedsIn b) (aboveIn b k) R) → s .0 ≡ fastest (speedsIn b)
-      → units (u .0 + roundedUp (R + taskAt b k .r - 1) (taskAt b k .t) * (taskAt b k .c + s .0 - 1)) ≡ units (load (speedsIn b) (aboveIn b (k + 1)) R)
+      → units (u .0 + countIn R (taskAt b k .r) (taskAt b k .t) * chargeAt (s .0) (taskAt b k .c)) ≡ units (load (speedsIn b) (aboveIn b (k + 1)) R)
   load-with R k u s e f = rw (load-more R k, e, f)
 
   -- the demand once all tasks above are counted
   pub demand-with : (i k : ℕ) (u : Units) → u ≡ units (load (speedsIn b) (aboveIn b k) (taskAt b i .r)) → k ≡ i
-      → units (taskAt b i .y * u .0 + taskAt b i .z * (taskAt b i .c - 1)) ≡ units (demand (speedsIn b) (aboveIn b i) (taskAt b i))
-  unfolding demand need
+      → units (taskAt b i .y * u .0 + taskAt b i .z * need (speedsIn b) (taskAt b i .c)) ≡ units (demand (speedsIn b) (aboveIn b i) (taskAt b i))
+  unfolding demand
   demand-with i k u e f = rw (e, f)
 
 -- speeds and loads, and how large they can be
@@ -199,12 +182,12 @@ module _ (b : Board) (ranged : Ranged b) where
   load-most R zero h g l t = omega arith
   load-most R (suc k) h g l t =
       let i = ranged .task k (omega arith) in
-      let n : roundedUp (R + taskAt b k .r - 1) (taskAt b k .t) ≤ 1000000 = le-trans (rounded-most R _ _ h (i .t .low) (t k (omega arith))) g in
-      let c : taskAt b k .c + fastest (speedsIn b) - 1 ≤ 1000099 = omega (arith, i .c .high, fastest-slow) in
+      let n : countIn R (taskAt b k .r) (taskAt b k .t) ≤ 1000000 = le-trans (rounded-most R _ _ h (i .t .low) (t k (omega arith))) g in
+      let c : chargeAt (fastest (speedsIn b)) (taskAt b k .c) ≤ 1000099 = omega (arith, i .c .high, fastest-slow) in
       omega (arith, rw (add-one k) at (load-more b R k), load-most R k h g (omega arith) (λ a l. t a (omega arith)), mul-le-mul n c)
 
 -- the speeds of a column are those of the tables
 pub column-is : (speeds : List ℕ) (t : Columns) (k : Task) (j : ℕ) → Tables speeds t → j < 9
-    → leb (k .q) (getD (t .sums) j (speed 0) .0 * k .y + getD (t .own) j (speed 0) .0 * k .z) ≡ covered speeds k j
+    → covers (getD (t .sums) j (speed 0) .0) (getD (t .own) j (speed 0) .0) (k .y) (k .z) (k .q) ≡ covered speeds k j
 unfolding covered
 column-is speeds t k j tables h = rw (tables .sums j h, tables .own j h)

@@ -1,11 +1,11 @@
 // The columns of a platform: S_j and the own speed s_(j+1), for every j that a board can have.
 use quantity::Speed;
 ghost use mathlib.Core.Path.{_≡_};
-ghost use Prim.Native.Nat.{_+_, _*_, _≤_};
+ghost use Prim.Native.Nat.{_≤_};
 ghost use lib.ListN.{getD};
-ghost use lib.Dec.{leb};
-ghost use Rattle.quantity.specs.Quantity.{speed};
-ghost use Rattle.certificate.specs.Columns.{Slow, Tables, Columned, speedsOf};
+ghost use Rattle.paper.specs.Certificate.{covers};
+ghost use Rattle.quantity.specs.Quantity.{speed, speedsOf};
+ghost use Rattle.certificate.specs.Columns.{Slow, Tables, Columned};
 
 // Column j has `sums[j]`, the sum of the j fastest speeds, and `own[j]`, the speed after them: 0 past the last processor.
 pub struct Columns {
@@ -49,7 +49,7 @@ pub fn columns_of(speeds: [Speed; 8], procs: u32) -> Columns
 // Whether a column with these speeds is covered.
 pub fn covered(sum: Speed, own: Speed, y: u32, z: u32, q: Speed) -> bool
     requires { ⌜ Columned sum own y z ⌝ }
-    ensures { λ r. ⌜ r ≡ leb (q .0) (sum .0 * y + own .0 * z) ⌝ }
+    ensures { λ r. ⌜ r ≡ covers (sum .0) (own .0) y z (q .0) ⌝ }
 {
     q.0 <= sum.0 * y + own.0 * z
 }

@@ -48,7 +48,7 @@ fn smaller(a: u32, b: u32) -> u32
 }
 
 // The tasks from 1 up, each with the rules 4, 5, 6 and 7 before the next. When a task is counted among those above, its bound is known
-// to be within its period, so that no sum of the walk grows out of 64 bits.
+// to be within its period, so that no sum of the walk grows out of 64 bits. The labels of the inner loops name them in the proof.
 pub fn judge_tasks(b: Board) -> Judged
     requires { ⌜ Ranged b ⌝ }
     ensures { λ r. ⌜ r ≡ packedVerdict (walk (unpacked b .speeds) [] (unpacked b .tasks)) ⌝ }

@@ -16,6 +16,12 @@ pub told : (answer : Answer) (n : Numbers) → n ≡ numbersOf answer → Told a
 told answer n e =
     record { is-code = ap (λ (n : Numbers). n .code) e; is-place = ap (λ (n : Numbers). n .place) e; is-detail = ap (λ (n : Numbers). n .detail) e }
 
+-- two calls that tell the same answer give the same three numbers
+pub told-unique : (answer : Answer) (code place detail code' place' detail' : ℕ) → Told answer code place detail → Told answer code' place' detail'
+    → (code ≡ code') × (place ≡ place') × (detail ≡ detail')
+told-unique answer code place detail code' place' detail' h g =
+    (h .is-code ∙ sym (g .is-code), h .is-place ∙ sym (g .is-place), h .is-detail ∙ sym (g .is-detail))
+
 -- n numbers in the first places, where there is room for them, and else none
 module _ (numbers places : List ℕ) (n : ℕ) (enough : n ≤ length numbers) where
   counted : length (take n numbers) ≡ n

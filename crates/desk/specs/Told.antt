@@ -1,14 +1,13 @@
 -- What a call from C is told: the numbers of an answer, and what the lent places hold.
 use Prim.Native.Nat.{ℕ}
 use mathlib.Core.Path.{_≡_}
-use mathlib.Core.List.{List, map}
+use mathlib.Core.List.{List}
 use mathlib.Core.Bool.{cond}
 use lib.ListN.{length}
 use lib.Dec.{leb}
 use Rattle.paper.specs.Answers.{numbersOf}
 use Rattle.paper.specs.Run.{over}
 use Rattle.paper.specs.declared.Answer.{Answer}
-use Rattle.quantity.specs.declared.Units.{Units}
 
 -- the code is the result, place and detail stand where they were asked for
 pub record Told (answer : Answer) (code place detail : ℕ) : Type 0 where
@@ -19,7 +18,3 @@ pub record Told (answer : Answer) (code place detail : ℕ) : Type 0 where
 -- the slacks in the first places, if there is a place for each; else the places keep what they had
 abbrev pub slacksIn : List ℕ → List ℕ → List ℕ
 slacksIn slacks places = cond (leb (length slacks) (length places)) (over slacks places) places
-
--- the numbers of slacks
-abbrev pub slackNumbers : List Units → List ℕ
-slackNumbers slacks = map (λ (u : Units). u .0) slacks

@@ -4,7 +4,9 @@ ghost use Prim.Native.Nat.{_≤_};
 ghost use lib.ListN.{take};
 ghost use Rattle.paper.specs.Check.{check};
 ghost use Rattle.paper.specs.Run.{run};
-ghost use Rattle.desk.specs.Told.{Told, slacksIn, slackNumbers};
+ghost use Rattle.paper.specs.Tables.{table};
+ghost use Rattle.verdict.specs.Checks.{slackNumbers};
+ghost use Rattle.desk.specs.Told.{Told, slacksIn};
 use quantity::Units;
 
 // Checks the bounds of a board.
@@ -70,6 +72,28 @@ pub extern "C" fn batkhreli_run(
 {
     let finished = run::run(text, places);
     let answer = finished.answer;
+    let numbers = answer.numbers();
+    *place = numbers.place;
+    *detail = numbers.detail;
+    numbers.code
+}
+
+// The table of one tick of a run; after 0 it stands in the eight seats.
+#[no_mangle]
+pub extern "C" fn batkhreli_table(
+    text: &[u8],
+    tick: u32,
+    seats: &mut [u32; 8],
+    place: &mut u32,
+    detail: &mut u32,
+) -> u32
+    ensures { λ r. ⌜ Told (table (now (text .entry)) tick (now (seats .entry)) .answer) r (now (place .exit)) (now (detail .exit)) ⌝ }
+    ensures { λ _. ⌜ now (seats .exit) ≡ table (now (text .entry)) tick (now (seats .entry)) .places ⌝ }
+{
+    let seated = run::table::table(text, tick, *seats);
+    let found = seated.seats;
+    *seats = found;
+    let answer = seated.answer;
     let numbers = answer.numbers();
     *place = numbers.place;
     *detail = numbers.detail;

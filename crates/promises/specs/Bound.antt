@@ -10,7 +10,7 @@ use Rattle.paper.specs.Board.{Task, Board, noTask, task}
 use Rattle.paper.specs.Certificate.{S, own, fastest, charge, jobs, load, demand}
 use Rattle.paper.specs.laws.Tests.{on-zero}
 use Rattle.paper.specs.laws.Ranges.{BoardIn}
-use Rattle.paper.specs.laws.Acceptance.{Covered, Accepted}
+use Rattle.paper.specs.Accepted.{Covered, Accepted}
 use Rattle.paper.specs.laws.Sums.{total, total-le, total-ext, total-swap, sum-take, all-columns}
 use Rattle.paper.specs.laws.Counting.{Sporadic, lateness}
 use Rattle.paper.specs.laws.Flow.{rank, rank-le, given, given-total, held, Follows}

@@ -12,7 +12,7 @@ use Rattle.paper.specs.Releases.{Release, legal, legality}
 use Rattle.paper.specs.Scheduler.{State, Ran, ran, overran, after}
 use Rattle.paper.specs.laws.Reading.{In}
 use Rattle.paper.specs.laws.Ranges.{BoardIn}
-use Rattle.paper.specs.laws.Acceptance.{Accepted}
+use Rattle.paper.specs.Accepted.{Accepted}
 use Rattle.paper.specs.laws.Legal.{nth, Listed, legal-listed, legal-spaced}
 use Rattle.paper.specs.laws.Served.{jobOf, responseOf}
 use Rattle.paper.specs.laws.Steps.{Holds}

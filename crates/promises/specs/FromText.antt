@@ -12,7 +12,8 @@ use Rattle.paper.specs.Check.{check}
 use Rattle.paper.specs.Run.{over, Both, readBoth, runRead, run}
 use Rattle.paper.specs.laws.Reading.{Reads, In, reads-give, reads-then, whole-good}
 use Rattle.paper.specs.laws.Ranges.{reads-board, reads-releases, both-in}
-use Rattle.paper.specs.laws.Acceptance.{Accepted, ReadsAs, done-accepted, none-rises}
+use Rattle.paper.specs.Accepted.{Accepted, ReadsAs}
+use Rattle.paper.specs.laws.Acceptance.{done-accepted, none-rises}
 use Rattle.paper.specs.laws.Finishing.{none-late, runs-done, overruns}
 use Rattle.paper.specs.declared.Answer.the-variants.{Done, Overrun}
 use Rattle.promises.specs.Demand3.{Finishes, demand-3}

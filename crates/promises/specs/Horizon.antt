@@ -12,7 +12,7 @@ use Rattle.paper.specs.Releases.{Release, taskOf, unitsOf, mark}
 use Rattle.paper.specs.laws.Tests.{on-zero, on-le, on-eqb}
 use Rattle.paper.specs.laws.Reading.{In}
 use Rattle.paper.specs.laws.Ranges.{BoardIn}
-use Rattle.paper.specs.laws.Acceptance.{Accepted}
+use Rattle.paper.specs.Accepted.{Accepted}
 use Rattle.paper.specs.laws.Legal.{nth, Listed, Spaced, listed-order}
 use Rattle.paper.specs.laws.Sums.{if-any, any-none, any-some}
 use Rattle.paper.specs.laws.Counting.{lateness}

@@ -1,22 +1,27 @@
--- THE PROMISES OF THE WHOLE PRODUCT: what is proved of the paper's own rules, scheduler and answers, and nothing else.
+-- THE PROMISES, on one page: what is proved of the paper's own rules, scheduler and answers. That the code gives exactly
+-- these is said by its contracts: `verdict::check` by `Checks`, `run::run` by `Meets`, equations with `check` and `run`.
 -- No axiom, hole or assumption stands behind any of it: the last line of this crate's check would count axioms, and counts
 -- none. A statement asks for no more than is written in it.
 use mathlib.Core.Path.{_≡_, refl, sym, _∙_}
 use mathlib.Core.List.{List, [], _++_, map}
 use Prim.Native.Nat.{ℕ, _+_, _≤_, _<_}
+use native.Mathlib.Omega.{arith}
 use lib.ListN.{length, getD}
 use Rattle.paper.specs.Text.{good, whole}
 use Rattle.paper.specs.Board.{Board}
 use Rattle.paper.specs.Releases.{Release, taskOf, legal, legality}
 use Rattle.paper.specs.Scheduler.{after}
 use Rattle.paper.specs.Check.{Checked, check}
-use Rattle.paper.specs.Run.{Both, readBoth, Finished, run}
+use Rattle.paper.specs.Certificate.{rising}
+use Rattle.paper.specs.Run.{Both, readBoth, Finished, late, finished, runRead, run}
+use Rattle.paper.specs.laws.Finishing.{runs-ticks}
 use Rattle.paper.specs.Cases.{cases, told, expected, paper}
 use Rattle.paper.specs.laws.Reading.{In}
 use Rattle.paper.specs.laws.Ranges.{BoardIn}
 use Rattle.paper.specs.laws.Legal.{nth, Listed}
 use Rattle.paper.specs.laws.Steps.{Holds}
-use Rattle.paper.specs.laws.Acceptance.{Accepted, Slacks, ReadsAs, slacksFrom, done-accepted, accepted-done, slacks-of}
+use Rattle.paper.specs.Accepted.{Accepted, Slacks, ReadsAs}
+use Rattle.paper.specs.laws.Acceptance.{slacksFrom, done-accepted, accepted-done, slacks-of}
 use Rattle.paper.specs.declared.Answer.the-variants.{Done, Overrun}
 use Rattle.promises.specs.Horizon.{SpacedBefore}
 use Rattle.promises.specs.Settled.{Between}
@@ -59,7 +64,7 @@ in-time board list places x h =
     let f = finishes board list (h .accepted) x (h .rest) (h .lines) (h .reads) (h .legal) in
     let e = ends board list (h .accepted) x (h .rest) (h .lines) (h .reads) places (h .legal) (h .enough) in
     let told : (p : ℕ) → Inside x p → In 1 (boundOf x p) (getD (f .state .responses) p 0) =
-    λ p i. f .in-time .response p (record { listed = i .listed; by = i .ends }) in
+    λ p i. f .in-time .response p (record { listed = i .listed; by = omega (arith, i .ends) }) in
     rw e (record { done = refl; places = λ p i. in-place (boundOf x p) p (f .state .responses) places (told p i); responses = told })
 
 -- Whatever text follows an accepted board's, the run never answers 9.
@@ -90,8 +95,19 @@ accepts-all = accepted-done
 pub slacks-are : (b : Board) → Slacks b (slacksFrom (b .speeds) [] (b .tasks))
 slacks-are = slacks-of
 
+-- The run is the scheduler. Where a text reads as a board and a list, no speed rises, no d is above t, there is a place for each
+-- release and the list is legal, what comes back is what the scheduler's ticks come to: its responses in the first places, or
+-- the release that met an unfinished job.
+pub run-is-scheduler : (text places : List ℕ) (x : Both) (rest : List ℕ) (n : ℕ) → whole readBoth text ≡ good x rest n
+    → rising 1 (x .board .speeds) ≡ 0 → late 1 (x .board .tasks) ≡ 0 → length (x .releases .list) ≤ length places
+    → legality (x .board) (x .releases .list) ≡ legal
+    → run text places ≡ finished places (length (x .releases .list)) (after (x .board) (x .releases .list) (x .releases .ticks))
+unfolding run runRead
+run-is-scheduler text places x rest n e r d l g = rw e (runs-ticks (x .board) (x .releases) places r d l g)
+
 -- Every input has exactly one answer. `check` and `run` are functions of all inputs, and a promise that equates a result with
--- theirs leaves nothing open: any two results that meet it are equal, answer, slacks, responses and every lent place.
+-- theirs leaves nothing open: any two results that meet it are equal, answer, slacks, responses and every lent place. Of the
+-- code's own results `one-result` in verdict and `run-unique` in run say the same.
 pub check-once : (text : List ℕ) (x y : Checked) → x ≡ check text → y ≡ check text → x ≡ y
 check-once text x y e f = e ∙ sym f
 

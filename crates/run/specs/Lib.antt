@@ -3,7 +3,9 @@ pub mod Columns
 pub mod Naming
 pub mod Clearing
 pub mod Going
+pub mod Seating
 pub mod Finishing
 pub mod Order
 pub mod Whole
 pub mod Responses
+pub mod Showing

@@ -14,6 +14,7 @@ use releases::legal::Judgement;
 use ticks::Outcome;
 
 mod places;
+pub mod table;
 mod ticks;
 mod units;
 

@@ -25,13 +25,13 @@ pub fn ticks<'a>(
     ensures { λ r. ⌜ Went procs speeds (now (at .entry)) (now (task .entry)) (now (units .entry)) count horizon (now (places .entry)) r (now (places .exit)) ⌝ }
 {
     let mut run = scheduler::fresh();
-    let mut a: u32 = 0;
-    while a < horizon {
-        run = scheduler::moved(run, procs, speeds, at, task, units, count, places, Ticks(a));
+    let mut time = Ticks(0);
+    while time.0 < horizon {
+        run = scheduler::moved(run, procs, speeds, at, task, units, count, places, time);
         if run.overrun {
-            return Outcome::Overran(run.next as u32 + 1, a);
+            return Outcome::Overran(run.next as u32 + 1, time.0);
         }
-        a += 1;
+        time = time.next();
     }
     Outcome::Through
 }

@@ -2,19 +2,26 @@
 use mathlib.Core.Path.{_≡_, refl, sym, ap, subst, _∙_}
 use Prim.Native.Nat.{ℕ, _+_, _≤_}
 use mathlib.Core.List.{List}
-use mathlib.Core.Bool.{true, false}
-use lib.ListN.{length, getD, take}
-use borrow.Author.Tests.{lt-ltb, eq-eqb}
+use mathlib.Core.Bool.{Bool, true, false, not}
+use lib.ListN.{length, take}
 use Rattle.paper.specs.Board.{Board}
 use Rattle.paper.specs.Scheduler.{State, ran, release, table, work, dispatched, tick}
 use Rattle.quantity.specs.declared.Speed.{Speed}
-use Rattle.quantity.specs.declared.Ticks.{Ticks}
 use Rattle.releases.specs.Packed.{releasesFrom}
 use Rattle.scheduler.specs.declared.RunState.{RunState}
 use Rattle.scheduler.specs.State.{unitsLeft, stateOf}
-use Rattle.scheduler.specs.Tick.{Listed, Cursor, Going, told, stopped, Released, dueAt, speedsOf, Worked, seatedAfter, Ticked}
-use Rattle.scheduler.proofs.Releasing.{true-false, begins, ends}
-use Rattle.scheduler.proofs.Working.{length-speeds}
+use Rattle.scheduler.specs.Tick.{Cursor, told, stopped, Released, speedsOf, seatedAfter, Ticked}
+use Rattle.scheduler.proofs.Releasing.{true-false}
+use Rattle.scheduler.proofs.Working.{Worked, length-speeds}
+
+-- what the test `!run.overrun` says
+pub goes-on : (b : Bool) → not b ≡ true → b ≡ false
+goes-on true e = sym e
+goes-on false e = refl
+
+pub goes-no-further : (b : Bool) → not b ≡ false → b ≡ true
+goes-no-further true e = refl
+goes-no-further false e = sym e
 
 told-stopped : (r : RunState) (rs : List ℕ) (a : ℕ) (b : Board) → r .overrun ≡ true → told r rs a ≡ dispatched b a (told r rs a)
 unfolding told dispatched
@@ -84,11 +91,3 @@ module _ (procs : ℕ) (speeds : List Speed) (at task units : List ℕ) (count a
         stopped = λ t. absurd (true-false (sym t ∙ going));
         untouched = λ t. absurd (true-false (sym t ∙ going));
       }
-
--- where no release is due the releases of the tick leave the state as it is
-pub nothing-due : (at task units : List ℕ) (count : ℕ) (time : Ticks) (run : RunState) → Listed at task units count → Going at count run (time .0)
-    → length (run .left) ≡ 96 → length (run .since) ≡ 96 → length (run .job) ≡ 96 → dueAt at count (run .next) (time .0) ≡ false
-    → Released at task units count (time .0) run run
-nothing-due at task units count time run listed going hl hs hj e =
-    ends at task units count time run listed run (run .next) (begins at task units count time run listed going hl hs hj)
-    (λ h same. let due : dueAt at count (run .next) (time .0) ≡ true = rw (lt-ltb (run .next) count h) (eq-eqb (getD at (run .next) 0) (time .0) same) in true-false (sym due ∙ e))

@@ -18,7 +18,7 @@ use Rattle.quantity.specs.declared.Units.{Units}
 use Rattle.scheduler.specs.declared.RunState.{RunState}
 use Rattle.scheduler.specs.State.{unitsLeft, stateOf}
 use Rattle.scheduler.specs.Laws.{left-at, left-set, length-left, since-at}
-use Rattle.scheduler.specs.Tick.{speedsOf, Answered, Worked}
+use Rattle.scheduler.specs.Tick.{speedsOf, Answered}
 
 -- what is left after one tick
 abbrev pub leftAfter : RunState → ℕ → Speed → Units
@@ -172,6 +172,16 @@ withTable run seats = record {
 state-table : (run : RunState) (seats : List ℕ) (rs : List ℕ) → stateOf (withTable run seats) rs ≡ stateOf run rs
 unfolding stateOf
 state-table run seats rs = refl
+
+-- what the seats and the work of tick a make of `run` and the lent places
+pub record Worked (procs : ℕ) (speeds : List Speed) (count a : ℕ) (run : RunState) (before : List ℕ) (r : RunState) (after : List ℕ) : Type 0 where
+  pub state : stateOf r (take count after)
+      ≡ paper.work (speedsOf procs speeds) (paper.table procs (unitsLeft (run .left))) a (stateOf run (take count before))
+  pub seats : r .table ≡ paper.table procs (unitsLeft (run .left))
+  pub rest : drop count after ≡ drop count before
+  pub long : length after ≡ length before
+  pub next : r .next ≡ run .next
+  pub overrun : r .overrun ≡ run .overrun
 
 -- and the seats are the paper's
 pub worked-by : (procs : ℕ) (speeds : List Speed) (seats : List ℕ) (count a : ℕ) (start : RunState) (before : List ℕ) (r : RunState) (after : List ℕ)

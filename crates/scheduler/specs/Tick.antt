@@ -2,12 +2,12 @@
 use mathlib.Core.Path.{_≡_}
 use Prim.Native.Nat.{ℕ, suc, _+_, _-_, _≤_, _<_}
 use mathlib.Core.List.{List, map}
-use mathlib.Core.Bool.{Bool, true, false, cond}
+use mathlib.Core.Bool.{true, false, cond}
 use lib.ListN.{length, getD, set, take, drop}
-use lib.Dec.{ltb, eqb}
+use lib.Dec.{eqb}
 use Rattle.paper.specs.Board.{Board}
 use Rattle.paper.specs.laws.Reading.{In}
-use Rattle.paper.specs.Scheduler.{Ran, ran, overran, release, table, work, tick}
+use Rattle.paper.specs.Scheduler.{Ran, ran, overran, release, table, tick}
 use Rattle.quantity.specs.declared.Speed.{Speed}
 use Rattle.releases.specs.Packed.{releasesFrom}
 use Rattle.scheduler.specs.State.{unitsLeft, stateOf}
@@ -60,20 +60,6 @@ pub record Answered (count p since left a : ℕ) (before after : List ℕ) : Typ
   pub first : take count after ≡ cond (eqb left 0) (set (take count before) p (a + 1 - since)) (take count before)
   pub rest : drop count after ≡ drop count before
   pub long : length after ≡ length before
-
--- whether the release that comes next is one of tick a
-abbrev pub dueAt : List ℕ → ℕ → ℕ → ℕ → Bool
-dueAt at count next a = cond (ltb next count) (eqb (getD at next 0) a) false
-
--- what the seats and the work of tick a make of `run` and the lent places
-pub record Worked (procs : ℕ) (speeds : List Speed) (count a : ℕ) (run : RunState) (before : List ℕ) (r : RunState) (after : List ℕ) : Type 0 where
-  pub state : stateOf r (take count after)
-      ≡ work (speedsOf procs speeds) (table procs (unitsLeft (run .left))) a (stateOf run (take count before))
-  pub seats : r .table ≡ table procs (unitsLeft (run .left))
-  pub rest : drop count after ≡ drop count before
-  pub long : length after ≡ length before
-  pub next : r .next ≡ run .next
-  pub overrun : r .overrun ≡ run .overrun
 
 -- what a tick asks: a legal list, with a place lent for each release; a run that goes on, before tick a
 pub record Standing (procs : ℕ) (at task units : List ℕ) (count a : ℕ) (run : RunState) (places : List ℕ) : Type 0 where

@@ -4,7 +4,7 @@ ghost use Prim.Native.Nat.{_+_, _≤_, _<_, _^_};
 ghost use lib.ListN.{length};
 ghost use Rattle.paper.specs.Scheduler.{table};
 ghost use Rattle.scheduler.specs.State.{freshRun, unitsLeft};
-ghost use Rattle.scheduler.specs.Tick.{Listed, Going, Released, dueAt, Answered, Worked, Standing, Ticked};
+ghost use Rattle.scheduler.specs.Tick.{Listed, Going, Released, Answered, Standing, Ticked};
 use quantity::Speed;
 use quantity::Ticks;
 use quantity::Units;
@@ -46,10 +46,11 @@ pub fn dispatch(left: [Units; 96], procs: u32) -> [u32; 8]
     let mut i: usize = 0;
     while i < 96 {
         if left[i].0 != 0 {
-            if seated < most {
-                table[seated] = (i + 1) as u32;
-                seated += 1;
+            if seated == most {
+                break;
             }
+            table[seated] = (i + 1) as u32;
+            seated += 1;
         }
         i += 1;
     }
@@ -77,10 +78,9 @@ fn release_due<'a>(
         }
         let place = (task[next] - 1) as usize;
         if run.left[place].0 != 0 {
-            let mut stopped = start;
-            stopped.next = next;
-            stopped.overrun = true;
-            return stopped;
+            run = start;
+            run.overrun = true;
+            break;
         }
         run.left[place] = Units(units[next] as u64);
         run.since[place] = time;
@@ -106,55 +106,10 @@ fn answer(places: &mut [u32], count: usize, job: u32, since: Ticks, left: Units,
     }
 }
 
-// The seats, and one tick of work for those who sit.
-fn work(
-    start: RunState,
-    procs: u32,
-    speeds: [Speed; 8],
-    count: usize,
-    places: &mut [u32],
-    time: Ticks,
-) -> RunState
-    requires { ⌜ procs ≤ 8 ⌝ }
-    requires { ⌜ count ≤ length (now places) ⌝ }
-    requires { ⌜ time .0 + 1 < 2 ^ 32 ⌝ }
-    ensures { λ r. ⌜ Worked procs speeds count (time .0) start (now (places .entry)) r (now (places .exit)) ⌝ }
-{
-    let left = start.left;
-    let seats = dispatch(left, procs);
-    let most = procs as usize;
-    let mut run = start;
-    run.table = seats;
-    let mut i: usize = 0;
-    while i < most {
-        let seat = seats[i];
-        if seat != 0 {
-            let place = (seat - 1) as usize;
-            let done = speeds[i].over(Ticks(1));
-            let left = run.left[place].less(done);
-            run.left[place] = left;
-            answer(places, count, run.job[place], run.since[place], left, time);
-        }
-        i += 1;
-    }
-    run
-}
-
-// Whether the release that comes next is one of tick `time`.
-fn due(at: &[u32], count: usize, next: usize, time: Ticks) -> bool
-    requires { ⌜ count ≤ length (now at) ⌝ }
-    ensures { λ r. ⌜ r ≡ dueAt (now (at .entry)) count next (time .0) ⌝ }
-{
-    if next < count {
-        at[next] == time.0
-    } else {
-        false
-    }
-}
-
-// One tick: the releases, the seats, the work.
+// One tick: the releases, the seats, and the work of those who sit. The state is one local with one way out, so that it is
+// copied once on the way in and once on the way out, whoever calls.
 pub fn tick<'a>(
-    run: RunState,
+    start: RunState,
     procs: u32,
     speeds: [Speed; 8],
     at: &'a [u32],
@@ -164,18 +119,29 @@ pub fn tick<'a>(
     places: &mut [u32],
     time: Ticks,
 ) -> RunState
-    requires { ⌜ Standing procs (now at) (now task) (now units) count (time .0) run (now places) ⌝ }
-    ensures { λ r. ⌜ Ticked procs speeds (now (at .entry)) (now (task .entry)) (now (units .entry)) count (time .0) run (now (places .entry)) r (now (places .exit)) ⌝ }
+    requires { ⌜ Standing procs (now at) (now task) (now units) count (time .0) start (now places) ⌝ }
+    ensures { λ r. ⌜ Ticked procs speeds (now (at .entry)) (now (task .entry)) (now (units .entry)) count (time .0) start (now (places .entry)) r (now (places .exit)) ⌝ }
 {
-    let next = run.next;
-    if due(at, count, next, time) {
-        let released = release_due(run, at, task, units, count, time);
-        if released.overrun {
-            return released;
+    let mut run = release_due(start, at, task, units, count, time);
+    if !run.overrun {
+        let left = run.left;
+        let seats = dispatch(left, procs);
+        run.table = seats;
+        let most = procs as usize;
+        let mut i: usize = 0;
+        while i < most {
+            let seat = seats[i];
+            if seat != 0 {
+                let place = (seat - 1) as usize;
+                let done = speeds[i].over(Ticks(1));
+                let left = run.left[place].less(done);
+                run.left[place] = left;
+                answer(places, count, run.job[place], run.since[place], left, time);
+            }
+            i += 1;
         }
-        return work(released, procs, speeds, count, places, time);
     }
-    work(run, procs, speeds, count, places, time)
+    run
 }
 
 // The same over a run state that is lent: it moves on by one tick where it stands.

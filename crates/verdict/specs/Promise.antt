@@ -10,14 +10,15 @@ use Rattle.paper.specs.Text.{Read, good, bad, whole}
 use Rattle.paper.specs.Certificate.{Verdict, accepted, refused, judged}
 use Rattle.paper.specs.Board.{Board, task, readBoard}
 use Rattle.paper.specs.laws.Ranges.{board-in}
-use Rattle.paper.specs.laws.Acceptance.{Accepted, ReadsAs, slackOf, slacksFrom, slacks-of, accepted-slacks, done-accepted, accepted-done}
+use Rattle.paper.specs.Accepted.{Accepted, ReadsAs, slackOf}
+use Rattle.paper.specs.laws.Acceptance.{slacksFrom, slacks-of, accepted-slacks, done-accepted, accepted-done}
 use Rattle.paper.specs.declared.Answer.the-variants.{Done}
 use Rattle.quantity.specs.Quantity.{units}
 use Rattle.quantity.specs.declared.Units.{Units}
 use Rattle.board.specs.Back.{column-at, take-padded}
 use Rattle.certificate.specs.Verdicts.{packedSlacks}
 use Rattle.verdict.specs.declared.Checked.{Checked}
-use Rattle.verdict.specs.Checks.{packedCheck, Checks}
+use Rattle.verdict.specs.Checks.{packedCheck, Checks, slackNumbers}
 
 -- two results that meet the promise coincide
 pub one-result : (text : List ℕ) (r r' : Checked) → Checks text r → Checks text r' → r ≡ r'
@@ -64,12 +65,12 @@ few-slacks text = read (whole readBoard text) refl
     read (good b rest n) e = verdict b rest n e (judged b) refl
 
 -- the numbers of the first `count` slacks are the paper's slacks
-pub slack-numbers : (text : List ℕ) (r : Checked) → Checks text r → (r .count ≤ 96) × (take (r .count) (map (λ (u : Units). u .0) (r .slacks)) ≡ paper.check text .slacks)
+pub slack-numbers : (text : List ℕ) (r : Checked) → Checks text r → (r .count ≤ 96) × (take (r .count) (slackNumbers (r .slacks)) ≡ paper.check text .slacks)
 unfolding packedCheck
 slack-numbers text r h =
     let xs = paper.check text .slacks in
     let few = few-slacks text in
-    rw h (few, take-map (λ (u : Units). u .0) (length xs) (packedSlacks xs) ∙ ap (map (λ (u : Units). u .0)) (front xs few) ∙ back xs)
+    rw h (few, take-map (λ (u : Units). u .0) (length xs) (packedSlacks xs) ∙ ap slackNumbers (front xs few) ∙ back xs)
   where
     take-map : {A B : Type 0} (f : A → B) (n : ℕ) (l : List A) → take n (map f l) ≡ map f (take n l)
     take-map f zero l = refl
@@ -79,5 +80,5 @@ slack-numbers text r h =
     front : (xs : List ℕ) → length xs ≤ 96 → take (length xs) (packedSlacks xs) ≡ map units xs
     front xs few = rw (← length-map xs units) (take-padded (units 0) 96 (map units xs) (rw (length-map xs units) few))
 
-    back : (xs : List ℕ) → map (λ (u : Units). u .0) (map units xs) ≡ xs
+    back : (xs : List ℕ) → slackNumbers (map units xs) ≡ xs
     back xs = map-map (λ (u : Units). u .0) units xs ∙ map-id xs

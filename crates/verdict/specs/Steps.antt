@@ -9,12 +9,13 @@ use Rattle.paper.specs.Check.{checkedAs, checkRead, check}
 use Rattle.paper.specs.laws.Acceptance.{walk-refuses, accepted-slacks}
 use Rattle.paper.specs.declared.Answer.{Answer}
 use Rattle.paper.specs.declared.Answer.the-variants.{Done, SpeedRises}
+use Rattle.text.specs.Lines.{Refused}
 use Rattle.board.specs.Packed.{unpacked}
-use Rattle.board.specs.Back.{Held, Refused}
+use Rattle.board.specs.Places.{tasks-count}
+use Rattle.board.specs.Back.{Held}
 use Rattle.board.specs.declared.Board.{Board}
 use Rattle.board.specs.declared.BoardRead.{BoardRead}
 use Rattle.certificate.specs.Verdicts.{packedVerdict}
-use Rattle.certificate.specs.Walked.{tasks-count}
 use Rattle.certificate.specs.declared.Judged.{Judged}
 use Rattle.verdict.specs.declared.Checked.{Checked}
 use Rattle.verdict.specs.Checks.{packedCheck}
@@ -23,7 +24,7 @@ abbrev pub refusing : Answer → Checked
 refusing a = packedCheck (record { answer = a; slacks = [] })
 
 -- a bad line
-pub out-line : {text : List ℕ} {r : BoardRead} → Refused text r → refusing (r .answer) ≡ packedCheck (check text)
+pub out-line : {text : List ℕ} {a : Answer} → Refused paper.readBoard text a → refusing a ≡ packedCheck (check text)
 unfolding check checkRead
 out-line f = rw (f .same, f .told)
 
@@ -69,5 +70,5 @@ module _ {text : List ℕ} {r : BoardRead} (f : Held text r) where
             → _≡_ {A = Checked} (record { answer = Done; count = r .board .tasks; slacks = j .slacks }) (packedCheck (checkedAs v))
         go (refused a) w i = absurd (walk-refuses (here .speeds) [] (here .tasks) a w (sym (ap (λ (j : Judged). j .answer) i) ∙ h))
         go (accepted slacks) w i =
-            let n : r .board .tasks ≡ length slacks = sym (accepted-slacks here slacks (same ∙ w) .count ∙ tasks-count (r .board) 0 (r .board .tasks)) in
+            let n : r .board .tasks ≡ length slacks = sym (accepted-slacks here slacks (same ∙ w) .count ∙ tasks-count (r .board)) in
             rw (n, i)

@@ -25,6 +25,15 @@ pub mod raw {
             place: *mut u32,
             detail: *mut u32,
         ) -> u32;
+
+        pub fn batkhreli_table(
+            text: *const u8,
+            length: usize,
+            tick: u32,
+            seats: *mut u32,
+            place: *mut u32,
+            detail: *mut u32,
+        ) -> u32;
     }
 }
 
@@ -56,4 +65,10 @@ pub fn slacks(board: &[u8], slacks: &mut [u64]) -> Answer {
 pub fn run(text: &[u8], places: &mut [u32]) -> Answer {
     let (lent, count) = (places.as_mut_ptr(), places.len());
     answered(|place, detail| unsafe { raw::batkhreli_run(text.as_ptr(), text.len(), lent, count, place, detail) })
+}
+
+/// Runs a board and a list, one text, up to a tick, and writes who sits on which processor in it.
+pub fn table(text: &[u8], tick: u32, seats: &mut [u32; 8]) -> Answer {
+    let lent = seats.as_mut_ptr();
+    answered(|place, detail| unsafe { raw::batkhreli_table(text.as_ptr(), text.len(), tick, lent, place, detail) })
 }

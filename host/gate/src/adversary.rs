@@ -34,7 +34,7 @@ pub fn test(report: &mut Report, times: u64) {
     });
     for (family, result) in families {
         let name = format!("search for a late job, {family:?} speeds");
-        report.take(&name, result.map(|found| found.told()));
+        report.take(&name, result.map(|found| format!("seed {}, {}", SEED + family as u64, found.told())));
     }
 }
 

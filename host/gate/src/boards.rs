@@ -74,5 +74,5 @@ fn at_the_ends() -> Result<String, String> {
             comparer.check(board_text(&near).as_bytes())?;
         }
     }
-    Ok(format!("{} boards compared, {}", comparer.codes.total(), comparer.codes.told(&[0, 2, 4, 5, 6, 7])?))
+    Ok(format!("{} boards compared, seed {SEED}, {}", comparer.codes.total(), comparer.codes.told(&[0, 2, 4, 5, 6, 7])?))
 }

@@ -100,6 +100,19 @@ impl Comparer {
         compared.map(|()| wanted).map_err(|wrong| format!("{wrong} with {places} places on {}", shown(text)))
     }
 
+    /// The table of a tick of a text's run.
+    pub fn table(&mut self, text: &[u8], tick: u32) -> Result<Answer, String> {
+        let before = std::array::from_fn(|_| self.random.bits() as u32);
+        let mut after = before;
+        let wanted = second::run::table(text, tick, &mut after);
+        self.codes.count(wanted);
+        let at_end = self.random.once_in(2);
+        let held = self.fence.hold(text, at_end);
+        let compared =
+            guarded::table(held, tick, &before).and_then(|found| same("table", found, (wanted, after.to_vec())));
+        compared.map(|()| wanted).map_err(|wrong| format!("{wrong} at tick {tick} of {}", shown(text)))
+    }
+
     /// A number of places for a list of `releases`: enough, exactly enough, or too few.
     pub fn places(&mut self, releases: usize) -> usize {
         let counts = [releases, releases + 1, releases + 17, 1_000, releases.saturating_sub(1), 0, releases, releases];

@@ -44,6 +44,17 @@ pub fn run(text: &[u8], before: &[u32]) -> Result<(Answer, Vec<u32>), String> {
     Ok((answer, unguarded(room, GUARD_32)?))
 }
 
+/// The answer, and what the eight seats hold afterwards.
+pub fn table(text: &[u8], tick: u32, before: &[u32; 8]) -> Result<(Answer, Vec<u32>), String> {
+    let mut room = vec![GUARD_32; before.len() + 2 * WORDS];
+    room[WORDS..WORDS + before.len()].copy_from_slice(before);
+    let lent = room[WORDS..].as_mut_ptr();
+    let answer = answered(|place, detail| unsafe {
+        raw::batkhreli_table(text.as_ptr(), text.len(), tick, lent, place, detail)
+    })?;
+    Ok((answer, unguarded(room, GUARD_32)?))
+}
+
 /// What stands between the guard words, if they are whole.
 fn unguarded<N: PartialEq + Copy>(room: Vec<N>, guard: N) -> Result<Vec<N>, String> {
     let end = room.len() - WORDS;

@@ -18,6 +18,7 @@ mod report;
 mod runs;
 mod samples;
 mod slices;
+mod tables;
 mod threads;
 mod vectors;
 mod workers;
@@ -49,6 +50,7 @@ fn everything(times: u64) {
     samples::test(&mut report);
     boards::test(&mut report, times);
     runs::test(&mut report, times);
+    tables::test(&mut report, times);
     damage::test(&mut report, times);
     adversary::test(&mut report, times);
     report.end();

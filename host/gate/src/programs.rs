@@ -6,7 +6,8 @@ use inputs::known::{a, b, board, list, p7, p8};
 use inputs::random::Random;
 use inputs::write::{board_text, run_text};
 use second::list::List;
-use std::io::Write;
+use std::fs::File;
+use std::io::{Seek, Write};
 use std::process::Command;
 use std::time::Duration;
 
@@ -17,7 +18,10 @@ pub fn test(report: &mut Report) {
     report.take("programs on random texts", random_texts());
     report.take("a huge input", huge());
     report.take("an empty input", empty());
+    report.take("a long input is not read to its end", not_to_the_end());
     report.take("a closed standard input", closed());
+    report.take("an unreadable standard input", unreadable());
+    report.take("a full standard output", unwritable());
     report.take("an input in pieces", pieces());
 }
 
@@ -129,20 +133,64 @@ fn empty() -> Result<String, String> {
 /// With no standard input at all a program may say that it read nothing, or fail without a word; it may not hang, crash
 /// or answer anything else.
 fn closed() -> Result<String, String> {
-    let mut told = Vec::new();
     for program in [CHECK, RUN] {
-        let output = Command::new("sh")
-            .args(["-c", &format!("exec {program} <&-")])
-            .output()
-            .map_err(|error| format!("{program}: {error}"))?;
-        let printed = String::from_utf8_lossy(&output.stdout);
-        match (output.status.code(), printed.as_ref()) {
-            (Some(0), NOTHING) => told.push("answers as to nothing"),
-            (Some(code), "") if code != 0 => told.push("fails and prints nothing"),
-            _ => return Err(format!("{program}: {}, printed {printed:?}", output.status)),
+        let told = started(&format!("exec {program} <&-"))?;
+        same("a closed standard input", told.0.as_str(), NOTHING)?;
+    }
+    Ok("both programs answer 1, 1, 0".into())
+}
+
+/// A text that cannot be read is no text: nothing on standard output, one line on standard error.
+fn unreadable() -> Result<String, String> {
+    for program in [CHECK, RUN] {
+        let (printed, said) = started(&format!("exec {program} <boards"))?;
+        same("a folder as standard input", printed.as_str(), "")?;
+        if said.lines().count() != 1 {
+            return Err(format!("{program}: on standard error {said:?}"));
         }
     }
-    Ok(format!("boardcheck {}, boardrun {}", told[0], told[1]))
+    Ok("a folder as standard input: no answer, one line on standard error".into())
+}
+
+/// An answer that cannot be written is said to be lost.
+fn unwritable() -> Result<String, String> {
+    for program in [CHECK, RUN] {
+        let (_, said) = started(&format!("exec {program} <boards/b.run >/dev/full"))?;
+        if said.lines().count() != 1 {
+            return Err(format!("{program}: on standard error {said:?}"));
+        }
+    }
+    Ok("a full device as standard output: one line on standard error".into())
+}
+
+/// What a shell command prints on standard output and on standard error.
+fn started(command: &str) -> Result<(String, String), String> {
+    let output = Command::new("sh").args(["-c", command]).output().map_err(|error| format!("{command}: {error}"))?;
+    if output.status.code() != Some(0) {
+        return Err(format!("{command}: {}", output.status));
+    }
+    let text = |bytes: &[u8]| String::from_utf8_lossy(bytes).into_owned();
+    Ok((text(&output.stdout), text(&output.stderr)))
+}
+
+/// A long input is not read to its end: one byte more than a text may have tells enough.
+fn not_to_the_end() -> Result<String, String> {
+    let wrong = |error: std::io::Error| error.to_string();
+    let name = std::env::temp_dir().join(format!("batkhreli-long-{}", std::process::id()));
+    std::fs::write(&name, vec![b'1'; 1_000_000]).map_err(wrong)?;
+    let mut read = Vec::new();
+    for program in [CHECK, RUN] {
+        let mut file = File::open(&name).map_err(wrong)?;
+        let shared = file.try_clone().map_err(wrong)?;
+        let output = Command::new(program).stdin(shared).output().map_err(wrong)?;
+        same("a million bytes", String::from_utf8_lossy(&output.stdout).as_ref(), TOO_LONG)?;
+        read.push(file.stream_position().map_err(wrong)?);
+    }
+    std::fs::remove_file(&name).map_err(wrong)?;
+    if read != [65_537, 65_537] {
+        return Err(format!("of a million bytes {read:?} were read"));
+    }
+    Ok("65,537 of a million bytes are read".into())
 }
 
 /// A pipe may give a text in pieces; the program must wait for the rest.

@@ -57,7 +57,7 @@ fn one(comparer: &mut Comparer) -> Result<(), String> {
 
 /// Gives some tasks more work than they have time for, so that releases come too early, sooner or later; rarely breaks
 /// one of the board's own rules.
-fn overload(comparer: &mut Comparer, board: &mut Board) {
+pub fn overload(comparer: &mut Comparer, board: &mut Board) {
     let random = &mut comparer.random;
     let fastest = board.speeds[0];
     for task in &mut board.tasks {

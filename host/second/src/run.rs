@@ -44,8 +44,37 @@ fn accepted(text: &[u8], places: usize) -> Result<(Board, List), Answer> {
     Ok((board, list))
 }
 
+/// Who sits on which processor in a tick of a text's run, which is made up to that tick.
+pub fn table(text: &[u8], tick: u32, seats: &mut [u32; 8]) -> Answer {
+    match seated(text, tick) {
+        Ok(table) => {
+            *seats = table;
+            DONE
+        }
+        Err(refusal) => refusal,
+    }
+}
+
+/// From the run's end on nobody sits.
+fn seated(text: &[u8], tick: u32) -> Result<[u32; 8], Answer> {
+    let (board, mut list) = accepted(text, usize::MAX)?;
+    list.ticks = list.ticks.min(tick.saturating_add(1));
+    let mut table = [0; 8];
+    schedule(&board, &list, |now, processor, task| {
+        if now == tick {
+            table[processor] = task;
+        }
+    })?;
+    Ok(table)
+}
+
 /// The response of each release, or the first release that comes while its task's last job is unfinished.
 pub fn responses(board: &Board, list: &List) -> Result<Vec<u32>, Answer> {
+    schedule(board, list, |_, _, _| {})
+}
+
+/// The same; every tick in which a task sits on a processor, counted from 0, is told on the way.
+fn schedule(board: &Board, list: &List, mut sits: impl FnMut(u32, usize, u32)) -> Result<Vec<u32>, Answer> {
     let mut above = vec![0u8; list.ticks as usize];
     let mut responses = vec![0; list.releases.len()];
     let mut overruns = Vec::new();
@@ -68,7 +97,13 @@ pub fn responses(board: &Board, list: &List) -> Result<Vec<u32>, Answer> {
                 responses[index] = last - release.at + 1;
                 free = last + 1;
             }
-            above[release.at as usize..free as usize].iter_mut().for_each(|tasks| *tasks += 1);
+            for tick in release.at..free {
+                let tasks = &mut above[tick as usize];
+                if usize::from(*tasks) < board.speeds.len() {
+                    sits(tick, usize::from(*tasks), number as u32);
+                }
+                *tasks += 1;
+            }
             // An unfinished job meets the next release inside the run, if there is one, as an overrun.
         }
     }

@@ -11,7 +11,7 @@ use Rattle.quantity.specs.Quantity.{units}
 use Rattle.quantity.specs.declared.Units.{Units}
 use Rattle.text.specs.Printing.{Placed}
 use Rattle.text.specs.Placing.{placed-none, placed-length, line-next}
-use Rattle.boardcheck.specs.Report.{numbersOf}
+use Rattle.verdict.specs.Checks.{slackNumbers}
 use Rattle.boardcheck.proofs.print_slacks.Statement.{statement}
 use Rattle.boardcheck.proofs.print_slacks.Tie as tie
 use Rattle.boardcheck.proofs.print_slacks.Reads as reads
@@ -20,7 +20,7 @@ use Rattle.text.proofs.print.print_line.Reads as print-line-reads
 
 abbrev Inv-loop : tie.InvT-loop
 Inv-loop out₀ at count slacks end₀ i₀ t9 out end i =
-    (i ≤ count) × (end ≤ at + 27 * i) × Placed out₀ at (printedAll "slack=" (take i (numbersOf slacks))) out end
+    (i ≤ count) × (end ≤ at + 27 * i) × Placed out₀ at (printedAll "slack=" (take i (slackNumbers slacks))) out end
 
 abbrev μ-loop : tie.MeasureT-loop
 μ-loop out₀ at count slacks end₀ i₀ t9 out end i = count - i
@@ -64,8 +64,8 @@ loop-again c =
     let l = c .before .before .before .before .before .before .before .loop in
     let a = c .before .before .before .before .before .before .before .before .before .args in
     let e = List·getD-map (λ (u : Units). u .0) (a .t3) (l .i) (units 0) in
-    let n : l .i < length (numbersOf (a .t3)) = simp length-map (omega (arith, full c)) in
-    let k = line-next (a .at) (l .end) (c .before .before .print-line .result) "slack=" (numbersOf (a .t3)) (l .i) (l .inv .2) (rw (← e) at (c .before .before .print-line .ensures)) n (omega arith) in
+    let n : l .i < length (slackNumbers (a .t3)) = simp length-map (omega (arith, full c)) in
+    let k = line-next (a .at) (l .end) (c .before .before .print-line .result) "slack=" (slackNumbers (a .t3)) (l .i) (l .inv .2) (rw (← e) at (c .before .before .print-line .ensures)) n (omega arith) in
     (omega arith, omega (arith, k .1), k .0)
 
 -- src/main.rt:10:1

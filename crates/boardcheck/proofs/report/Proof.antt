@@ -2,7 +2,7 @@
 -- Assumes nothing.
 use mathlib.Core.Path.{ap, _∙_}
 use native.Mathlib.Omega.{arith}
-use Rattle.console.specs.Counted.{counts}
+use Rattle.console.specs.Counted.{reported}
 use Rattle.paper.specs.Answers.{numbersOf}
 use Rattle.paper.specs.Output.{checkPrints}
 use Rattle.text.specs.Placing.{placed-then, placed-length, numbers-short}
@@ -58,8 +58,7 @@ returns c =
     let n = k .before .before .before .before .before .numbers .ensures ∙ ap (λ (r : Checked). numbersOf (r .answer)) checks in
     let p = rw n at (k .before .before .before .before .print-numbers .ensures) in
     let q = rw slacks at (c .before .before .print-slacks .ensures) in
-    let all = placed-then p q in
-    record { bytes = all; counts = counts (c .before .before .print-slacks .result) _ (omega (arith, all .fits, placed-length all)) }
+    reported (placed-then p q)
 
 pub report-spec : {M : Type 1} → statement M
 report-spec =

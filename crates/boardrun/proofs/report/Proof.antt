@@ -3,7 +3,7 @@
 use mathlib.Core.Path.{_≡_, ap, _∙_}
 use native.Mathlib.Omega.{arith}
 use lib.ListN.{length, replicate}
-use Rattle.console.specs.Counted.{counts}
+use Rattle.console.specs.Counted.{reported}
 use Rattle.paper.specs.Answers.{numbersOf}
 use Rattle.paper.specs.Output.{runPrints}
 use Rattle.text.specs.Placing.{placed-then, placed-length, numbers-short}
@@ -65,8 +65,7 @@ returns c =
     let n = k .before .before .before .before .before .before .numbers .ensures ∙ ap numbersOf (ran .ensures .answer) in
     let p = rw n at (k .before .before .before .before .before .print-numbers .ensures) in
     let q = rw (responses-first text (replicate 1000 0) (ran .result) (ran .last .1 .0) (ran .ensures)) at (c .before .before .print-responses .ensures) in
-    let all = placed-then p q in
-    record { bytes = all; counts = counts (c .before .before .print-responses .result) _ (omega (arith, all .fits, placed-length all)) }
+    reported (placed-then p q)
 
 pub report-spec : {M : Type 1} → statement M
 report-spec =

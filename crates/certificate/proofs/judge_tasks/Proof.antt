@@ -14,11 +14,13 @@ use Rattle.paper.specs.laws.Judging.{uncoveredFrom, column-covered, column-unco
 use Rattle.paper.specs.Certificate.{covered, demand, load as loadOf}
 use Rattle.quantity.specs.declared.Units.{Units}
 use Rattle.quantity.specs.Quantity.{units}
+use Rattle.quantity.specs.Speeds.{speeds-length}
 use Rattle.board.specs.Rules.{length-mapped}
 use Rattle.board.specs.declared.Board.{Board}
 use Rattle.board.specs.Packed.{taskAt, tasksFrom}
-use Rattle.certificate.specs.Columns.{Tables, own-slow}
-use Rattle.certificate.specs.Walked.{speedsIn, aboveIn, Walked, speeds-in, slow, fastest-slow, S-slow, load-with, demand-with, load-most, column-is, walk-starts, walk-ends, out-deadline, out-bound, out-column, out-fails, way-on}
+use Rattle.certificate.specs.Columns.{Tables}
+use Rattle.certificate.specs.Filling.{own-slow}
+use Rattle.certificate.specs.Walked.{speedsIn, aboveIn, Walked, slow, fastest-slow, S-slow, load-with, demand-with, load-most, column-is, walk-starts, walk-ends, out-deadline, out-bound, out-column, out-fails, way-on}
 use Rattle.certificate.proofs.judge_tasks.Statement.{statement}
 use Rattle.certificate.proofs.judge_tasks.Tie as tie
 
@@ -98,7 +100,7 @@ needed : (a : tie.After-demand Inv-search μ-search Inv-loads μ-loads Inv-tasks
 needed a =
     let l = a .before .before .before in
     let s = l .before .before .before in
-    a .demand .ensures ∙ demand-with (board s) (at s .tasks .i) (l .loads .k) _ (l .loads .inv .1) (omega (arith, l .loads .inv .0, a .before .before .loads-test .left))
+    a .demand .ensures _ ∙ demand-with (board s) (at s .tasks .i) (l .loads .k) _ (l .loads .inv .1) (omega (arith, l .loads .inv .0, a .before .before .loads-test .left))
 
 cast-tasks : tie.Need-cast-tasks Inv-search μ-search Inv-loads μ-loads Inv-tasks μ-tasks
 cast-tasks c = search needs
@@ -115,7 +117,8 @@ no-slacks-requires c κs = search needs
 tasks-holds : tie.Need-tasks-holds Inv-search μ-search Inv-loads μ-loads Inv-tasks μ-tasks
 tasks-holds c =
     let start = c .before .before .before .before .before .before in
-    (speeds-in (start .args .t1) (search (needs, length-mapped)) (start .pre .procs .high), rw (c .no-slacks .ensures) (walk-starts _))
+    let places : length (start .args .t1 .speeds) ≡ 8 = search (needs, length-mapped) in
+    (speeds-length _ _ (omega (arith, start .pre .procs .high)), rw (c .no-slacks .ensures) (walk-starts _))
 
 cast-h : tie.Need-cast-h Inv-search μ-search Inv-loads μ-loads Inv-tasks μ-tasks
 cast-h c = search needs

@@ -9,7 +9,7 @@ use Rattle.quantity.specs.Quantity.{units}
 use Rattle.quantity.specs.declared.Units.{Units}
 use Rattle.text.specs.Printing.{Placed}
 use Rattle.text.specs.Placing.{placed-none, placed-next, placed-length}
-use Rattle.desk.specs.Told.{slackNumbers}
+use Rattle.verdict.specs.Checks.{slackNumbers}
 use Rattle.desk.specs.Telling.{slacks-none, slacks-placed}
 use Rattle.desk.proofs.put_slacks.Statement.{statement}
 use Rattle.desk.proofs.put_slacks.Tie as tie

@@ -67,10 +67,8 @@ loop-again c =
     let h : i < length left = omega arith in (
       search needs,
       ⊎-elim
-          (λ w. rw (w .2, w .3) (rw (add-one n, add-one i) (seats-taken m left t n i h (λ e. w .0 .taken (sym (left-at us i) ∙ e)) (w .1 .taken)) ∙ inv, (omega arith, length-set t n (i + 1) ∙ len)))
-          (⊎-elim
-          (λ w. rw (w .2, w .3) (seats-full m left t n (i + 1) (w .1 .left) ∙ sym (seats-full m left t n i (w .1 .left)) ∙ inv, (omega arith, len)))
-          (λ w. rw (w .1, w .2) (rw (add-one i) (seats-empty m left t n i h (left-at us i ∙ w .0 .left)) ∙ inv, (omega arith, len))))
+          (λ w. let full = w .1 .left in rw (w .2, w .3) (rw (add-one n, add-one i) (seats-taken m left t n i h (λ e. w .0 .taken (sym (left-at us i) ∙ e)) (omega arith)) ∙ inv, (omega arith, length-set t n (i + 1) ∙ len)))
+          (λ w. rw (w .1, w .2) (rw (add-one i) (seats-empty m left t n i h (left-at us i ∙ w .0 .left)) ∙ inv, (omega arith, len)))
           (c .if1 .came),
     )
 
@@ -80,6 +78,12 @@ returns c =
     let all : length us ≡ 96 = search needs in
     let all-left : length (unitsLeft us) ≡ 96 = length-left us ∙ all in
     sym (seats-end (c .before .before .args .procs) (unitsLeft us) (c .before .loop .table) (c .before .loop .seated) (c .before .loop .i) (omega arith)) ∙ c .before .loop .inv .1 .0
+
+returns-2 : tie.Need-returns-2 Inv-loop μ-loop
+returns-2 c =
+    let us : List Units = c .before .before .before .before .args .t1 in
+    let l = c .before .before .before .loop in
+    sym (seats-full (c .before .before .before .before .args .procs) (unitsLeft us) (l .table) (l .seated) (l .i) (omega arith)) ∙ l .inv .1 .0
 
 pub dispatch-spec : {M : Type 1} → statement M
 dispatch-spec =
@@ -98,4 +102,5 @@ dispatch-spec =
     add-i
     loop-less
     loop-again
-    returns)
+    returns
+    returns-2)

@@ -44,23 +44,17 @@ mul-if2 c = omega (arith, c .before .before .before .before .before .before .pre
 element-copy-out-if2 : tie.Need-element-copy-out-if2 Inv-loop μ-loop
 element-copy-out-if2 c = omega (arith, c .before .before .before .before .before .before .pre .0 .known (c .before .before .before .before .before .loop .next) (omega arith) .low, c .before .before .before .before .before .before .pre .0 .known (c .before .before .before .before .before .loop .next) (omega arith) .high)
 
-returns : tie.Need-returns Inv-loop μ-loop
-returns c =
-    let s = c .before .before .before .before .before .before .before .args in
-    let l = c .before .before .before .before .before .before .loop in
-    stops (s .at .now) (s .task .now) (s .units .now) (s .count) (s .time) (s .start) (c .before .before .before .before .before .before .before .pre .0) (l .run) (l .next) (l .inv) (omega arith) (c .before .before .if1 .left) (c .if2 .taken)
+mul-t11 : tie.Need-mul-t11 Inv-loop μ-loop
+mul-t11 c = search needs
 
-mul-t12 : tie.Need-mul-t12 Inv-loop μ-loop
-mul-t12 c = search needs
+shared-slice-read-t13 : tie.Need-shared-slice-read-t13 Inv-loop μ-loop
+shared-slice-read-t13 c = search needs
 
-shared-slice-read-t14 : tie.Need-shared-slice-read-t14 Inv-loop μ-loop
-shared-slice-read-t14 c = search needs
+cast-t18 : tie.Need-cast-t18 Inv-loop μ-loop
+cast-t18 c = omega (arith, c .shared-slice-known3 .given (c .before .before .before .before .before .before .before .loop .next))
 
-cast-t19 : tie.Need-cast-t19 Inv-loop μ-loop
-cast-t19 c = omega (arith, c .shared-slice-known3 .given (c .before .before .before .before .before .before .before .loop .next))
-
-mul-t22 : tie.Need-mul-t22 Inv-loop μ-loop
-mul-t22 c = omega (arith, c .before .before .before .before .before .before .before .before .pre .0 .known (c .before .before .before .before .before .before .before .loop .next) (omega arith) .low, c .before .before .before .before .before .before .before .before .pre .0 .known (c .before .before .before .before .before .before .before .loop .next) (omega arith) .high)
+mul-t21 : tie.Need-mul-t21 Inv-loop μ-loop
+mul-t21 c = omega (arith, c .before .before .before .before .before .before .before .before .pre .0 .known (c .before .before .before .before .before .before .before .loop .next) (omega arith) .low, c .before .before .before .before .before .before .before .before .pre .0 .known (c .before .before .before .before .before .before .before .loop .next) (omega arith) .high)
 
 element-set-from-run : tie.Need-element-set-from-run Inv-loop μ-loop
 element-set-from-run c = omega (arith, c .before .before .before .before .before .before .before .before .pre .0 .known (c .before .before .before .before .before .before .before .loop .next) (omega arith) .low, c .before .before .before .before .before .before .before .before .pre .0 .known (c .before .before .before .before .before .before .before .loop .next) (omega arith) .high)
@@ -92,17 +86,23 @@ loop-again c =
     let l = c .before .before .before .before .before .before .before .loop in
     one-more (s .at .now) (s .task .now) (s .units .now) (s .count) (s .time) (s .start) (c .before .before .before .before .before .before .before .before .pre .0) (l .run) (l .next) (l .inv) (omega arith) (c .before .before .before .if1 .left) (c .before .if2 .left)
 
-returns-2 : tie.Need-returns-2 Inv-loop μ-loop
-returns-2 c =
+returns : tie.Need-returns Inv-loop μ-loop
+returns c =
     let s = c .before .before .args in
     let l = c .before .loop in
     ends (s .at .now) (s .task .now) (s .units .now) (s .count) (s .time) (s .start) (c .before .before .pre .0) (l .run) (l .next) (l .inv) (λ h _. omega arith)
 
-returns-3 : tie.Need-returns-3 Inv-loop μ-loop
-returns-3 c =
+returns-2 : tie.Need-returns-2 Inv-loop μ-loop
+returns-2 c =
     let s = c .before .before .before .before .before .args in
     let l = c .before .before .before .before .loop in
     ends (s .at .now) (s .task .now) (s .units .now) (s .count) (s .time) (s .start) (c .before .before .before .before .before .pre .0) (l .run) (l .next) (l .inv) (λ _ e. c .if1 .taken e)
+
+returns-3 : tie.Need-returns-3 Inv-loop μ-loop
+returns-3 c =
+    let s = c .before .before .before .before .before .before .before .args in
+    let l = c .before .before .before .before .before .before .loop in
+    stops (s .at .now) (s .task .now) (s .units .now) (s .count) (s .time) (s .start) (c .before .before .before .before .before .before .before .pre .0) (l .run) (l .next) (l .inv) (omega arith) (c .before .before .if1 .left) (c .if2 .taken)
 
 pub release-due-spec : {M : Type 1} → statement M
 release-due-spec =
@@ -119,11 +119,10 @@ release-due-spec =
     cast-place
     mul-if2
     element-copy-out-if2
-    returns
-    mul-t12
-    shared-slice-read-t14
-    cast-t19
-    mul-t22
+    mul-t11
+    shared-slice-read-t13
+    cast-t18
+    mul-t21
     element-set-from-run
     mul-time
     element-set-from-time
@@ -133,5 +132,6 @@ release-due-spec =
     add-next
     loop-less
     loop-again
+    returns
     returns-2
     returns-3)

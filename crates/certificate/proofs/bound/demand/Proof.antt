@@ -5,6 +5,7 @@ use Prim.Native.Nat.{_≤_}
 use native.Mathlib.Omega.{arith}
 use native.Mathlib.Nat.{mul-le-mul}
 use borrow.Author.Needs.{needs}
+use Rattle.paper.specs.Certificate.{need}
 use Rattle.quantity.specs.declared.Units.{Units}
 use Rattle.quantity.specs.Quantity.{units}
 use Rattle.certificate.proofs.bound.demand.Statement.{statement}
@@ -35,7 +36,8 @@ plus-requires c κs =
     )
 
 returns : tie.Need-returns
-returns c =
+unfolding need
+returns c speeds =
     rw (c .plus .ensures, c .before .times2 .ensures, c .before .before .less .ensures, c .before .before .before .times .ensures)
     (ap units (omega arith))
 

@@ -4,8 +4,9 @@ use mathlib.Core.Path.{ap}
 use Prim.Native.Nat.{_≤_, _-_}
 use native.Mathlib.Omega.{arith}
 use borrow.Author.Needs.{needs}
+use Rattle.quantity.specs.Quantity.{speedsOf}
 use Rattle.quantity.specs.declared.Speed.{Speed}
-use Rattle.certificate.specs.Columns.{speedsOf, Filled, filled-none, filled-more, own-slow}
+use Rattle.certificate.specs.Filling.{Filled, filled-none, filled-more, own-slow}
 use Rattle.certificate.proofs.columns.columns_of.Statement.{statement}
 use Rattle.certificate.proofs.columns.columns_of.Tie as tie
 
