@@ -17,7 +17,7 @@ use Rattle.scheduler.specs.Tick.{speedsOf, seatedAfter, Ticked}
 use Rattle.scheduler.specs.Kept.{told-going}
 use Rattle.scheduler.specs.declared.RunState.{RunState}
 use Rattle.run.specs.Going.{Going, columns}
-use Rattle.run.specs.declared.table.Last.{Last}
+use Rattle.run.specs.declared.ticks.Last.{Last}
 use Rattle.run.specs.declared.table.Seated.{Seated}
 use Rattle.run.specs.declared.ticks.Outcome.the-variants.{Through, Overran}
 
