@@ -14,7 +14,7 @@ bench:
 
 # random boards and damaged texts for longer than the gate
 soak:
-	@host/soak.sh
+	@host/soak.sh $(TIMES)
 
 # a run as a picture
 timeline:
