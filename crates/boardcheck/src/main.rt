@@ -1,8 +1,8 @@
 // Checks the board on standard input and prints the verdict.
 ghost use Rattle.std.specs.Prelude.{◌+◌, ◌*◌, ◌≤◌, length, take};
-ghost use Rattle.paper.specs.Output.{printedAll, checkPrints};
+ghost use Rattle.paper.specs.Output.{printed_all, check_prints};
 ghost use Rattle.text.specs.Printing.{Placed};
-ghost use Rattle.verdict.specs.Checks.{slackNumbers};
+ghost use Rattle.verdict.specs.Checks.{slack_numbers};
 ghost use Rattle.console.specs.Report.{Reported};
 
 use quantity::Units;
@@ -10,7 +10,7 @@ use quantity::Units;
 // A line for each of the first `count` slacks, from `at` on, and where they end.
 fn print_slacks(out: &mut [u8], at: usize, slacks: [Units; 96], count: usize) -> usize
     requires { (count ≤ 96) × (at + 27 * count ≤ length out.old) }
-    ensures { Placed out.old at (printedAll "slack=" (take count (slackNumbers slacks))) out.new result }
+    ensures { Placed out.old at (printed_all "slack=" (take count (slack_numbers slacks))) out.new result }
 {
     let mut end = at;
     let mut i = 0;
@@ -25,7 +25,7 @@ fn print_slacks(out: &mut [u8], at: usize, slacks: [Units; 96], count: usize) ->
 // What is printed for a board, at the front of `out`, and where it ends.
 fn report(board: &[u8], out: &mut [u8]) -> usize
     requires { 4096 ≤ length out.old }
-    ensures { Reported (checkPrints board.now) out.old out.new result }
+    ensures { Reported (check_prints board.now) out.old out.new result }
 {
     let checked = verdict::check(board);
     let answer = checked.answer;

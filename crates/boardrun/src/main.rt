@@ -1,13 +1,13 @@
 // Runs the board and the release list on standard input and prints the answer and the responses.
 ghost use Rattle.std.specs.Prelude.{◌+◌, ◌*◌, ◌≤◌, length, take};
-ghost use Rattle.paper.specs.Output.{printedAll, runPrints};
+ghost use Rattle.paper.specs.Output.{printed_all, run_prints};
 ghost use Rattle.text.specs.Printing.{Placed};
 ghost use Rattle.console.specs.Report.{Reported};
 
 // A line for each of the first `count` responses, from `at` on, and where they end.
 fn print_responses(out: &mut [u8], at: usize, places: &[u32], count: usize) -> usize
     requires { (count ≤ length places.now) × (at + 30 * count ≤ length out.old) }
-    ensures { Placed out.old at (printedAll "response=" (take count places.now)) out.new result }
+    ensures { Placed out.old at (printed_all "response=" (take count places.now)) out.new result }
 {
     let mut end = at;
     let mut i = 0;
@@ -22,7 +22,7 @@ fn print_responses(out: &mut [u8], at: usize, places: &[u32], count: usize) -> u
 // list can have.
 fn report(both: &[u8], out: &mut [u8]) -> usize
     requires { 32768 ≤ length out.old }
-    ensures { Reported (runPrints both.now) out.old out.new result }
+    ensures { Reported (run_prints both.now) out.old out.new result }
 {
     let mut places = [0u32; 1000];
     let finished = run::run(both, &mut places);

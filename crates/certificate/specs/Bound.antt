@@ -23,5 +23,5 @@ pub record Adds (load : Units) (window : Ticks) (c : Units) (r t : Ticks) (faste
 pub record Sides (load c : Units) (y z : ℕ) : Type 0 where
   pub loaded : load.0 ≤ 95009405000000
   pub work : c.0 ≤ 1000000
-  pub by-y : y ≤ 100000
-  pub by-z : z ≤ 100000
+  pub by_y : y ≤ 100000
+  pub by_z : z ≤ 100000

@@ -17,7 +17,7 @@ pub record Tables (speeds : List ℕ) (t : Columns) : Type 0 where
 
 -- a column's speeds and a task's numbers, small enough for the sum of their products
 pub record Columned (sum owns : Speed) (y z : ℕ) : Type 0 where
-  pub slow-sum : sum.0 ≤ 800
-  pub slow-own : owns.0 ≤ 100
-  pub by-y : y ≤ 100000
-  pub by-z : z ≤ 100000
+  pub slow_sum : sum.0 ≤ 800
+  pub slow_own : owns.0 ≤ 100
+  pub by_y : y ≤ 100000
+  pub by_z : z ≤ 100000

@@ -8,9 +8,9 @@ use Rattle.board.specs.Packed.{padded}
 use Rattle.certificate.specs.declared.Judged.{Judged}
 
 -- slacks in 96 places
-abbrev pub packedSlacks : List ℕ → List Units
-packedSlacks slacks = padded (units 0) 96 (map units slacks)
+abbrev pub packed_slacks : List ℕ → List Units
+packed_slacks slacks = padded (units 0) 96 (map units slacks)
 
-unfoldable pub packedVerdict : Verdict → Judged
-packedVerdict (refused answer) = record { answer = answer; slacks = packedSlacks [] }
-packedVerdict (accepted slacks) = record { answer = Done; slacks = packedSlacks slacks }
+unfoldable pub packed_verdict : Verdict → Judged
+packed_verdict (refused answer) = record { answer = answer; slacks = packed_slacks [] }
+packed_verdict (accepted slacks) = record { answer = Done; slacks = packed_slacks slacks }

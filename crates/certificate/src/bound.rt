@@ -1,6 +1,6 @@
 // The two sides of the bound: what the tasks above and the task itself may need, against q over r ticks.
 ghost use Rattle.std.specs.Prelude.{◌≡◌, ℕ, ◌+◌, ◌*◌, ◌≤◌, List};
-ghost use Rattle.paper.specs.Certificate.{chargeAt, countIn, need};
+ghost use Rattle.paper.specs.Certificate.{charge_at, count_in, need};
 ghost use Rattle.quantity.specs.Quantity.{units};
 ghost use Rattle.certificate.specs.Bound.{Above, Adds, Sides};
 
@@ -9,7 +9,7 @@ use quantity::{Speed, Ticks, Units};
 // The charge of one job of c units: one tick of the fastest, less one unit, comes on top.
 fn charge(c: Units, fastest: Speed) -> Units
     requires { c.0 ≤ 1000000 }
-    ensures { result ≡ units (chargeAt fastest.0 c.0) }
+    ensures { result ≡ units (charge_at fastest.0 c.0) }
 {
     c.plus(fastest.over(Ticks(1))).less(Units(1))
 }
@@ -17,7 +17,7 @@ fn charge(c: Units, fastest: Speed) -> Units
 // The job count, in `window` ticks, of a task with bound r and period t.
 fn jobs(window: Ticks, r: Ticks, t: Ticks) -> u32
     requires { Above window r t }
-    ensures { result ≡ countIn window.0 r.0 t.0 }
+    ensures { result ≡ count_in window.0 r.0 t.0 }
 {
     (window.0 + r.0 - 1 + t.0 - 1) / t.0
 }
@@ -25,7 +25,7 @@ fn jobs(window: Ticks, r: Ticks, t: Ticks) -> u32
 // The load with that of one more task above: job count times charge.
 pub fn added(load: Units, window: Ticks, c: Units, r: Ticks, t: Ticks, fastest: Speed) -> Units
     requires { Adds load window c r t fastest }
-    ensures { result ≡ units (load.0 + countIn window.0 r.0 t.0 * chargeAt fastest.0 c.0) }
+    ensures { result ≡ units (load.0 + count_in window.0 r.0 t.0 * charge_at fastest.0 c.0) }
 {
     load.plus(charge(c, fastest).times(jobs(window, r, t) as u64))
 }

@@ -1,7 +1,7 @@
 // The columns of a platform: S_j and the own speed s_(j+1), for every j that a board can have.
 ghost use Rattle.std.specs.Prelude.{◌≡◌, ◌≤◌, get_or};
 ghost use Rattle.paper.specs.Certificate.{covers};
-ghost use Rattle.quantity.specs.Quantity.{speed, speedsOf};
+ghost use Rattle.quantity.specs.Quantity.{speed, speeds_of};
 ghost use Rattle.certificate.specs.Columns.{Slow, Tables, Columned};
 
 use quantity::Speed;
@@ -16,7 +16,7 @@ pub struct Columns {
 // The own speed of column j.
 fn own_speed(speeds: [Speed; 8], procs: u32, j: usize) -> Speed
     requires { procs ≤ 8 }
-    ensures { result ≡ speed (get_or (speedsOf procs speeds) j 0) }
+    ensures { result ≡ speed (get_or (speeds_of procs speeds) j 0) }
 {
     if j < (procs as usize) {
         speeds[j]
@@ -27,7 +27,7 @@ fn own_speed(speeds: [Speed; 8], procs: u32, j: usize) -> Speed
 
 pub fn columns_of(speeds: [Speed; 8], procs: u32) -> Columns
     requires { Slow procs speeds }
-    ensures { Tables (speedsOf procs speeds) result }
+    ensures { Tables (speeds_of procs speeds) result }
 {
     let mut sums = [Speed(0); 9];
     let mut own = [Speed(0); 9];

@@ -11,7 +11,7 @@ mod columns;
 ghost use Rattle.std.specs.Prelude.{◌≡◌, [], min};
 ghost use Rattle.paper.specs.Certificate.{walk, refused};
 ghost use Rattle.board.specs.Packed.{Ranged, unpacked};
-ghost use Rattle.certificate.specs.Verdicts.{packedSlacks, packedVerdict};
+ghost use Rattle.certificate.specs.Verdicts.{packed_slacks, packed_verdict};
 
 // What the tasks of a board come to: after `Done` each task's slack, and 0 in every other place.
 #[derive(Drop)]
@@ -22,14 +22,14 @@ pub struct Judged {
 
 // Places for the slacks, none of which is filled.
 fn no_slacks() -> [Units; 96]
-    ensures { result ≡ packedSlacks [] }
+    ensures { result ≡ packed_slacks [] }
 {
     [Units(0); 96]
 }
 
 // A refusal leaves no slacks.
 fn refusal(answer: Answer) -> Judged
-    ensures { result ≡ packedVerdict (refused answer) }
+    ensures { result ≡ packed_verdict (refused answer) }
 {
     let slacks = no_slacks();
     Judged {
@@ -48,7 +48,7 @@ fn smaller(a: u32, b: u32) -> u32
 // to be within its period, so that no sum of the walk grows out of 64 bits. The labels of the inner loops name them in the proof.
 pub fn judge_tasks(b: Board) -> Judged
     requires { Ranged b }
-    ensures { result ≡ packedVerdict (walk (unpacked b).speeds [] (unpacked b).tasks) }
+    ensures { result ≡ packed_verdict (walk (unpacked b).speeds [] (unpacked b).tasks) }
 {
     let procs = b.procs;
     let tasks = b.tasks as usize;

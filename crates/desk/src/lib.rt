@@ -3,8 +3,8 @@ ghost use Rattle.std.specs.Prelude.{◌≡◌, ◌≤◌, take};
 ghost use Rattle.paper.specs.Check.{check};
 ghost use Rattle.paper.specs.Run.{run};
 ghost use Rattle.paper.specs.Tables.{table};
-ghost use Rattle.verdict.specs.Checks.{slackNumbers};
-ghost use Rattle.desk.specs.Told.{Told, slacksIn};
+ghost use Rattle.verdict.specs.Checks.{slack_numbers};
+ghost use Rattle.desk.specs.Told.{Told, slacks_in};
 
 use quantity::Units;
 
@@ -24,7 +24,7 @@ pub extern "C" fn batkhreli_check(board: &[u8], place: &mut u32, detail: &mut u3
 // The slacks in the first places, where there is a place for each of them.
 fn put_slacks(slacks: [Units; 96], count: usize, places: &mut [u64])
     requires { count ≤ 96 }
-    ensures { places.new ≡ slacksIn (take count (slackNumbers slacks)) places.old }
+    ensures { places.new ≡ slacks_in (take count (slack_numbers slacks)) places.old }
 {
     if places.len() < count {
         return;
@@ -46,7 +46,7 @@ pub extern "C" fn batkhreli_slacks(
     detail: &mut u32,
 ) -> u32
     ensures told { Told (check board.now).answer result place.new detail.new }
-    ensures slacks_after { slacks.new ≡ slacksIn (check board.now).slacks slacks.old }
+    ensures slacks_after { slacks.new ≡ slacks_in (check board.now).slacks slacks.old }
 {
     let checked = verdict::check(board);
     let found = checked.slacks;

@@ -6,16 +6,16 @@ use Rattle.std.proofs.Common.{◌∙◌, mul-le-mul_right, le_refl, le_of_lt, le
 use Rattle.std.proofs.Math.Nat.{mul-le-mul_left, le_trans}
 use native.Mathlib.Omega.{arith}
 use Rattle.std.proofs.Math.ListN.{length}
-use Rattle.paper.specs.Board.{Task, Board, noTask, task}
+use Rattle.paper.specs.Board.{Task, Board, no_task, task}
 use Rattle.paper.specs.Certificate.{S, own, fastest, charge, jobs, load, demand}
-use Rattle.paper.specs.laws.Tests.{on-zero}
-use Rattle.paper.specs.laws.Ranges.{BoardIn}
+use Rattle.paper.specs.Laws.Tests.{on_zero}
+use Rattle.paper.specs.Laws.Ranges.{BoardIn}
 use Rattle.paper.specs.Accepted.{Covered, Accepted}
-use Rattle.paper.specs.laws.Sums.{total, total-le, total_ext, total-swap, sum-take, all-columns}
-use Rattle.paper.specs.laws.Counting.{Sporadic, lateness}
-use Rattle.paper.specs.laws.Flow.{rank, rank-le, given, given-total, held, Follows}
-use Rattle.promises.specs.Place.{offer, sinks, given-in, unfinished}
-use Rattle.promises.specs.Carried.{Prompt, clear, jobs-in}
+use Rattle.paper.specs.Laws.Sums.{total, total_le, total_ext, total_swap, sum-take, all_columns}
+use Rattle.paper.specs.Laws.Counting.{Sporadic, lateness}
+use Rattle.paper.specs.Laws.Flow.{rank, rank_le, given, given-total, held, Follows}
+use Rattle.promises.specs.Place.{offer, sinks, given_in, unfinished}
+use Rattle.promises.specs.Carried.{Prompt, clear, jobs_in}
 
 -- the releases to one task's place are within c and far enough apart
 pub record Lawful (k : Task) (rel mark : ℕ → ℕ) : Type 0 where
@@ -34,8 +34,8 @@ certified b ok i h =
     let p = ok.pass i h in
     let e : length (take i b.tasks) ≡ i = length-take i b.tasks ∙ omega arith in
     record {
-      fits = omega (arith, p.r-in, p.d-in);
-      covers = λ j g. all-columns b.speeds (task b i) i (rw e at p.covers) j (omega arith);
+      fits = omega (arith, p.r_in, p.d_in);
+      covers = λ j g. all_columns b.speeds (task b i) i (rw e at p.covers) j (omega arith);
       holds = omega (arith, p.holds);
     }
 
@@ -62,13 +62,13 @@ module _ (b : Board) (inside : BoardIn b) (ok : Accepted b) {rel mark left : ℕ
   Prompts k = Prompt (task b k).r (λ a. rel a k) (λ a. left a k)
 
   -- the load on task i in its bound
-  abbrev loadOn : ℕ → ℕ
-  loadOn i = load b.speeds (take i b.tasks) (task b i).r
+  abbrev load_on : ℕ → ℕ
+  load_on i = load b.speeds (take i b.tasks) (task b i).r
 
   -- each task given those above it: the only place that says which ticks speak for a job's own
   abbrev Windows : Type 0
   Windows = (i : ℕ) → i < length b.tasks → ((k : ℕ) → k < i → Prompts k) → (a : ℕ)
-      → Window b.speeds rel left i a (task b i).r (loadOn i)
+      → Window b.speeds rel left i a (task b i).r (load_on i)
 
   fast : (j : ℕ) → own b.speeds j ≤ fastest b.speeds
   fast zero = le_refl _
@@ -79,23 +79,23 @@ module _ (b : Board) (inside : BoardIn b) (ok : Accepted b) {rel mark left : ℕ
       → total (λ e. above b.speeds rel left i (w + e)) R ≤ load b.speeds (take i b.tasks) R
   unfolding load
   taken i h prompt w R =
-      rw (sum-take (λ k. jobs R k * charge b.speeds k.c) noTask b.tasks i (le_of_lt h))
+      rw (sum-take (λ k. jobs R k * charge b.speeds k.c) no_task b.tasks i (le_of_lt h))
       (rw (← total_ext (λ e. total (given b.speeds (held rel left (w + e))) i) _ R (λ e _. given-total b.speeds (held rel left (w + e)) i))
-      (rw (total-swap (λ e k. given b.speeds (held rel left (w + e)) k) R i)
-      (total-le _ _ i
+      (rw (total_swap (λ e k. given b.speeds (held rel left (w + e)) k) R i)
+      (total_le _ _ i
       (λ k g.
       let n : k < length b.tasks = omega arith in
-      le_trans (given-in F fast k (task b k).c (lawful k n).small w R)
+      le_trans (given_in F fast k (task b k).c (lawful k n).small w R)
       (mul-le-mul_right (charge b.speeds (task b k).c)
-      (jobs-in (task b k) (λ a. rel a k) (λ a. left a k) (F.start k) (sinks F k) (inside.task k n).r.low (prompt k g) (lawful k n).sporadic w R))))))
+      (jobs_in (task b k) (λ a. rel a k) (λ a. left a k) (F.start k) (sinks F k) (inside.task k n).r.low (prompt k g) (lawful k n).sporadic w R))))))
 
   -- the job's own ticks speak for themselves
-  pub own-window : Windows
-  own-window i h prompt a = record { from = a; takes = taken i h prompt a (task b i).r; offers = le_refl _ }
+  pub own_window : Windows
+  own_window i h prompt a = record { from = a; takes = taken i h prompt a (task b i).r; offers = le_refl _ }
 
   module _ (window : Windows) where
     -- a job that is not complete after its bound would have been offered too much
-    late : (i : ℕ) → i < length b.tasks → (a L : ℕ) → (task b i).r ≡ suc L → Window b.speeds rel left i a (suc L) (loadOn i)
+    late : (i : ℕ) → i < length b.tasks → (a L : ℕ) → (task b i).r ≡ suc L → Window b.speeds rel left i a (suc L) (load_on i)
         → 0 < rel a i → 0 < left (a + suc L) i → ⊥
     unfolding demand
     late i h a L e w p o =
@@ -103,20 +103,20 @@ module _ (b : Board) (inside : BoardIn b) (ok : Accepted b) {rel mark left : ℕ
         let cert = certified b ok i h in
         let sp = (lawful i h).sporadic in
         let quiet : (d : ℕ) → 0 < d → d ≤ L → rel (a + d) i ≡ 0 = λ d d0 dl.
-        on-zero (rel (a + d) i)
+        on_zero (rel (a + d) i)
         (λ z. z)
         (λ g. absurd (omega (arith, sp.gap a (a + d) (omega arith) p g, sp.by a p, sp.after (a + d) g, cert.fits))) in
         let offers = unfinished F fast i k.c (lawful i h).small a L (inside.task i h).c.low quiet o in
-        let cl = columns b.speeds k i (λ d. rank (held rel left (w.from + d)) i) (λ j g. cert.covers j (omega arith)) (λ d. rank-le _ i) (suc L) in
+        let cl = columns b.speeds k i (λ d. rank (held rel left (w.from + d)) i) (λ j g. cert.covers j (omega arith)) (λ d. rank_le _ i) (suc L) in
         omega
         (arith, cl, cert.holds, mul-le-mul_left k.y w.takes, mul-le-mul_left k.z (le_trans w.offers offers), ap (λ R. k.q * R) e)
 
     next : (i : ℕ) → i < length b.tasks → ((k : ℕ) → k < i → Prompts k) → Prompts i
     next i h up a p = go (task b i).r refl (window i h up a)
       where
-        go : (R : ℕ) → (task b i).r ≡ R → Window b.speeds rel left i a R (loadOn i) → left (a + R) i ≡ 0
+        go : (R : ℕ) → (task b i).r ≡ R → Window b.speeds rel left i a R (load_on i) → left (a + R) i ≡ 0
         go zero e w = absurd (omega (arith, (inside.task i h).r.low))
-        go (suc L) e w = on-zero (left (a + suc L) i) (λ z. z) (λ o. absurd (late i h a L e w p o))
+        go (suc L) e w = on_zero (left (a + suc L) i) (λ z. z) (λ o. absurd (late i h a L e w p o))
 
     -- every job is complete within its bound
     pub prompt : (i : ℕ) → i < length b.tasks → Prompts i
@@ -127,6 +127,6 @@ module _ (b : Board) (inside : BoardIn b) (ok : Accepted b) {rel mark left : ℕ
         below (suc m) l k h = next k (omega arith) (λ j g. below m (omega arith) j (omega arith))
 
     -- and no job is released while its forerunner is unfinished
-    pub none-met : (i : ℕ) → i < length b.tasks → (a : ℕ) → 0 < rel a i → left a i ≡ 0
-    none-met i h =
+    pub none_met : (i : ℕ) → i < length b.tasks → (a : ℕ) → 0 < rel a i → left a i ≡ 0
+    none_met i h =
         clear (task b i) (λ a. rel a i) (λ a. left a i) (F.start i) (sinks F i) (inside.task i h).r.low (prompt i h) (lawful i h).sporadic (certified b ok i h).fits

@@ -4,10 +4,10 @@ use Rattle.std.proofs.Common.{ap, arith}
 use Rattle.std.proofs.Math.Nat.{le_dest}
 use Rattle.paper.specs.Board.{Task}
 use Rattle.paper.specs.Certificate.{jobs}
-use Rattle.paper.specs.laws.Tests.{on-zero, on-le}
-use Rattle.paper.specs.laws.Sums.{any, any_none, any_some}
-use Rattle.paper.specs.laws.Counting.{count, count-front, count-split, count-more, Sporadic, lateness, at-most-jobs}
-use Rattle.paper.specs.laws.Flow.{renewed, renewed-none}
+use Rattle.paper.specs.Laws.Tests.{on_zero, on_le}
+use Rattle.paper.specs.Laws.Sums.{any, any_none, any_some}
+use Rattle.paper.specs.Laws.Counting.{count, count_front, count_split, count_more, Sporadic, lateness, at_most_jobs}
+use Rattle.paper.specs.Laws.Flow.{renewed, renewed_none}
 
 -- each job released at a is complete r ticks later
 abbrev pub Prompt : (r : ℕ) (rel left : ℕ → ℕ) → Type 0
@@ -25,14 +25,14 @@ module _ (k : Task) (rel left : ℕ → ℕ) (start : left 0 ≡ 0) (sinks : (a 
   busy : (a : ℕ) → 0 < left a → Recent k.r rel a
   busy zero h = absurd (omega (arith, start))
   busy (suc a) h =
-      on-zero (rel a)
+      on_zero (rel a)
       (λ e.
-      let w = busy a (omega (arith, sinks a, renewed-none (left a) e)) in
-      on-le (w.at + k.r) (suc a)
+      let w = busy a (omega (arith, sinks a, renewed_none (left a) e)) in
+      on_le (w.at + k.r) (suc a)
       (λ g. let f : w.at + k.r ≡ suc a = omega arith in absurd (omega (arith, prompt w.at w.some, ap left f)))
       (λ g. record { at = w.at; before = omega arith; some = w.some; recent = g }))
       (λ s.
-      on-le (a + k.r) (suc a)
+      on_le (a + k.r) (suc a)
       (λ g. let f : a + k.r ≡ suc a = omega arith in absurd (omega (arith, prompt a s, ap left f)))
       (λ g. record { at = a; before = omega arith; some = s; recent = g }))
 
@@ -40,18 +40,18 @@ module _ (k : Task) (rel left : ℕ → ℕ) (start : left 0 ≡ 0) (sinks : (a 
     -- a release never meets an unfinished forerunner
     pub clear : k.r + lateness k ≤ k.t → (a : ℕ) → 0 < rel a → left a ≡ 0
     clear fits a h =
-        on-zero (left a)
+        on_zero (left a)
         (λ e. e)
         (λ g.
         let w = busy a g in
         absurd (omega (arith, S.gap w.at a w.before w.some h, S.by w.at w.some, S.after a h)))
 
     -- the jobs that can run in R ticks: those released in them, and one brought in
-    pub jobs-in : (a R : ℕ) → any (left a) + count rel a R ≤ jobs R k
-    jobs-in a R = on-zero (left a) none some
+    pub jobs_in : (a R : ℕ) → any (left a) + count rel a R ≤ jobs R k
+    jobs_in a R = on_zero (left a) none some
       where
         none : left a ≡ 0 → any (left a) + count rel a R ≤ jobs R k
-        none e = rw (any_none 1 e) (omega (arith, count-more rel a R (R + k.r - 1) (omega arith), at-most-jobs k S a R))
+        none e = rw (any_none 1 e) (omega (arith, count_more rel a R (R + k.r - 1) (omega arith), at_most_jobs k S a R))
 
         some : 0 < left a → any (left a) + count rel a R ≤ jobs R k
         some h =
@@ -63,8 +63,8 @@ module _ (k : Task) (rel left : ℕ → ℕ) (start : left 0 ≡ 0) (sinks : (a 
               any_some 1 h,
               any_some 1 w.some,
               ap (λ x. count rel x R) e,
-              count-split rel w.at (suc d.0) R,
-              count-front rel w.at d.0,
-              count-more rel w.at (suc d.0 + R) (R + k.r - 1) (omega (arith, w.recent)),
-              at-most-jobs k S w.at R,
+              count_split rel w.at (suc d.0) R,
+              count_front rel w.at d.0,
+              count_more rel w.at (suc d.0 + R) (R + k.r - 1) (omega (arith, w.recent)),
+              at_most_jobs k S w.at R,
             )

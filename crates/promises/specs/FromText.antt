@@ -2,69 +2,69 @@
 use Rattle.std.specs.Prelude.{◌≡◌, refl, List, ◌++◌, ℕ, ◌≤◌, ◌<◌, length, get_or, drop}
 use Rattle.std.proofs.Common.{sym, subst, arith}
 use Rattle.std.proofs.Math.ListN.{get_or-append, get_or-eq_default}
-use Rattle.paper.specs.laws.Tests.{on-le}
-use Rattle.paper.specs.Text.{malformed, outOfRange, Read, good, bad, Reader, ◌>>=◌, and_then, give, whole}
-use Rattle.paper.specs.Board.{Board, readBoard}
-use Rattle.paper.specs.Releases.{readReleases, legal, legality}
+use Rattle.paper.specs.Laws.Tests.{on_le}
+use Rattle.paper.specs.Text.{malformed, out_of_range, Read, good, bad, Reader, ◌>>=◌, and_then, give, whole}
+use Rattle.paper.specs.Board.{Board, read_board}
+use Rattle.paper.specs.Releases.{read_releases, legal, legality}
 use Rattle.paper.specs.Check.{check}
-use Rattle.paper.specs.Run.{over, Both, readBoth, runRead, run}
-use Rattle.paper.specs.laws.Reading.{Reads, In, reads-give, reads_then, whole-good}
-use Rattle.paper.specs.laws.Ranges.{reads-board, reads-releases, both-in}
+use Rattle.paper.specs.Run.{over, Both, read_both, run_read, run}
+use Rattle.paper.specs.Laws.Reading.{Reads, In, reads_give, reads_then, whole-good}
+use Rattle.paper.specs.Laws.Ranges.{reads_board, reads_releases, both_in}
 use Rattle.paper.specs.Accepted.{Accepted, ReadsAs}
-use Rattle.paper.specs.laws.Acceptance.{done-accepted, none-rises}
-use Rattle.paper.specs.laws.Finishing.{none-late, runs_done, overruns}
+use Rattle.paper.specs.Laws.Acceptance.{done_accepted, none_rises}
+use Rattle.paper.specs.Laws.Finishing.{none_late, runs_done, overruns}
 use Rattle.paper.specs.declared.Answer.TheVariants.{Done, Overrun}
-use Rattle.promises.specs.Demand3.{Finishes, demand-3}
+use Rattle.promises.specs.Demand3.{Finishes, demand_3}
 
 -- the rest of a text after its board
 abbrev listed : Board → Reader Both
 listed b = do
-  l ← readReleases
+  l ← read_releases
   give (record { board = b; releases = l })
 
-reads-listed : (b : Board) → Reads (listed b) (λ x. x.board ≡ b)
-reads-listed b = reads_then reads-releases (λ l _. reads-give _ refl)
+reads_listed : (b : Board) → Reads (listed b) (λ x. x.board ≡ b)
+reads_listed b = reads_then reads_releases (λ l _. reads_give _ refl)
 
-same-board : (board list : List ℕ) (b : Board) → ReadsAs board b → (x : Both) (rest : List ℕ) (n : ℕ) → whole readBoth (board ++ list) ≡ good x rest n
+same_board : (board list : List ℕ) (b : Board) → ReadsAs board b → (x : Both) (rest : List ℕ) (n : ℕ) → whole read_both (board ++ list) ≡ good x rest n
     → x.board ≡ b
-unfolding readBoth and_then
-same-board board list b r x rest n e =
-    let i = reads-board.alone board 1 b r.rest r.lines (whole-good readBoard board b r.rest r.lines r.reads).0 list in
-    let j = (whole-good readBoth (board ++ list) x rest n e).0 in
-    (reads-listed b).ensures (r.rest ++ list) r.lines x rest n (rw i at j)
+unfolding read_both and_then
+same_board board list b r x rest n e =
+    let i = reads_board.alone board 1 b r.rest r.lines (whole-good read_board board b r.rest r.lines r.reads).0 list in
+    let j = (whole-good read_both (board ++ list) x rest n e).0 in
+    (reads_listed b).ensures (r.rest ++ list) r.lines x rest n (rw i at j)
 
-module _ (board list : List ℕ) (done : (check board).answer ≡ Done) (x : Both) (rest : List ℕ) (n : ℕ) (reads : whole readBoth (board ++ list) ≡ good x rest n) where
+module _ (board list : List ℕ) (done : (check board).answer ≡ Done) (x : Both) (rest : List ℕ) (n : ℕ) (reads : whole read_both (board ++ list) ≡ good x rest n) where
   accepted : Accepted x.board
-  accepted = let a = done-accepted board done in subst Accepted (sym (same-board board list a.0 a.1 x rest n reads)) a.2
+  accepted = let a = done_accepted board done in subst Accepted (sym (same_board board list a.0 a.1 x rest n reads)) a.2
 
   -- the ticks of a legal list come to their end
   pub finishes : legality x.board x.releases.list ≡ legal → Finishes x.board x.releases.list x.releases.ticks
-  finishes g = demand-3 x.board (both-in (board ++ list) x rest n reads).board accepted x.releases.list g x.releases.ticks
+  finishes g = demand_3 x.board (both_in (board ++ list) x rest n reads).board accepted x.releases.list g x.releases.ticks
 
   -- and so does the run
   pub ends : (places : List ℕ) (g : legality x.board x.releases.list ≡ legal) → length x.releases.list ≤ length places
       → let y = (finishes g).state.responses in run (board ++ list) places ≡ record { answer = Done; responses = y; places = over y places }
-  unfolding run runRead
+  unfolding run run_read
   ends places g h =
       rw reads
-      (runs_done x.board x.releases places (finishes g).state (none-rises 1 x.board.speeds accepted.falling)
-      (none-late 1 x.board.tasks (λ k i. (accepted.pass k i).d-in)) h g (finishes g).ends)
+      (runs_done x.board x.releases places (finishes g).state (none_rises 1 x.board.speeds accepted.falling)
+      (none_late 1 x.board.tasks (λ k i. (accepted.pass k i).d_in)) h g (finishes g).ends)
 
 -- what has a response holds it in its place
 pub in_place : (r p : ℕ) (responses places : List ℕ) → In 1 r (get_or responses p 0) → In 1 r (get_or (over responses places) p 0)
 in_place r p responses places w =
     let i : p < length responses =
-    on-le (length responses) p (λ g. absurd (omega (arith, w.low, get_or-eq_default responses 0 g))) (λ g. g) in
+    on_le (length responses) p (λ g. absurd (omega (arith, w.low, get_or-eq_default responses 0 g))) (λ g. g) in
     rw (get_or-append responses (drop (length responses) places) 0 p i) w
 
 -- no text after an accepted board's makes a release meet an unfinished job
-pub never-overruns : (board list places : List ℕ) → (check board).answer ≡ Done → (p a : ℕ) → (run (board ++ list) places).answer ≡ Overrun p a → ⊥
-unfolding run runRead
-never-overruns board list places done p a = go (whole readBoth (board ++ list)) refl
+pub never_overruns : (board list places : List ℕ) → (check board).answer ≡ Done → (p a : ℕ) → (run (board ++ list) places).answer ≡ Overrun p a → ⊥
+unfolding run run_read
+never_overruns board list places done p a = go (whole read_both (board ++ list)) refl
   where
-    go : (r : Read Both) → whole readBoth (board ++ list) ≡ r → (runRead places r).answer ≡ Overrun p a → ⊥
+    go : (r : Read Both) → whole read_both (board ++ list) ≡ r → (run_read places r).answer ≡ Overrun p a → ⊥
     go (bad malformed n) e h = let z : ◌≡◌ {A = ℕ} 0 1 = cc in omega arith
-    go (bad outOfRange n) e h = let z : ◌≡◌ {A = ℕ} 0 1 = cc in omega arith
+    go (bad out_of_range n) e h = let z : ◌≡◌ {A = ℕ} 0 1 = cc in omega arith
     go (good x rest n) e h =
         let o = overruns x.board x.releases places p a h in
         let f = finishes board list done x rest n e o.legal in

@@ -6,11 +6,11 @@ use Rattle.std.proofs.Math.Nat.{add-zero}
 use Rattle.std.proofs.Common.{add-suc}
 use native.Mathlib.Omega.{arith}
 use Rattle.paper.specs.Certificate.{own, fastest, charge, need}
-use Rattle.paper.specs.laws.Tests.{on-zero}
-use Rattle.paper.specs.laws.Sums.{total, if-any, any, any_some}
-use Rattle.paper.specs.laws.Credit.{credit, credit-none, credit-last, credit-falls, credit-charge, charge-need}
-use Rattle.paper.specs.laws.Counting.{count}
-use Rattle.paper.specs.laws.Flow.{renewed, renewed-none, renewed-some, rank, given, held, Follows}
+use Rattle.paper.specs.Laws.Tests.{on_zero}
+use Rattle.paper.specs.Laws.Sums.{total, if_any, any, any_some}
+use Rattle.paper.specs.Laws.Credit.{credit, credit_none, credit_last, credit_falls, credit-charge, charge-need}
+use Rattle.paper.specs.Laws.Counting.{count}
+use Rattle.paper.specs.Laws.Flow.{renewed, renewed_none, renewed_some, rank, given, held, Follows}
 
 -- the speed that the tasks before place i leave for it at tick a
 abbrev pub offer : (speeds : List ℕ) (rel left : ℕ → ℕ → ℕ) → ℕ → ℕ → ℕ
@@ -25,21 +25,21 @@ module _ {speeds : List ℕ} {rel left : ℕ → ℕ → ℕ} (F : Follows speed
     -- each tick is paid out of the credit
     paid : (a : ℕ) → credit speeds (left (suc a) k) + given speeds (held rel left a) k ≤ credit speeds (held rel left a k)
     unfolding given
-    paid a = rw (F.step a k) (credit-falls speeds (held rel left a k) _ (fast _))
+    paid a = rw (F.step a k) (credit_falls speeds (held rel left a k) _ (fast _))
 
-    small-held : (a : ℕ) → left a k ≤ c → held rel left a k ≤ c
-    small-held a h =
-        on-zero (rel a k)
-        (λ e. omega (arith, renewed-none (left a k) e))
-        (λ s. omega (arith, renewed-some (left a k) s, small a))
+    small_held : (a : ℕ) → left a k ≤ c → held rel left a k ≤ c
+    small_held a h =
+        on_zero (rel a k)
+        (λ e. omega (arith, renewed_none (left a k) e))
+        (λ s. omega (arith, renewed_some (left a k) s, small a))
 
-    small-left : (a : ℕ) → left a k ≤ c
-    small-left zero = omega (arith, F.start k)
-    small-left (suc a) = omega (arith, sinks k a, small-held a (small-left a))
+    small_left : (a : ℕ) → left a k ≤ c
+    small_left zero = omega (arith, F.start k)
+    small_left (suc a) = omega (arith, sinks k a, small_held a (small_left a))
 
     -- a release adds at most its charge
     renews : (u x : ℕ) → u ≤ c → credit speeds (renewed u x) ≤ credit speeds x + any u * charge speeds c
-    unfolding if-any renewed
+    unfolding if_any renewed
     renews zero x h = omega arith
     renews (suc u) x h = omega (arith, credit-charge speeds (suc u) c h)
 
@@ -55,34 +55,34 @@ module _ {speeds : List ℕ} {rel left : ℕ → ℕ → ℕ} (F : Follows speed
     -- what is brought in is at most one charge
     brought : (w : ℕ) → credit speeds (left w k) ≤ any (left w k) * charge speeds c
     brought w =
-        on-zero (left w k)
-        (λ e. omega (arith, credit-none speeds, ap (credit speeds) e))
-        (λ h. rw (any_some 1 h) (omega (arith, credit-charge speeds (left w k) c (small-left w))))
+        on_zero (left w k)
+        (λ e. omega (arith, credit_none speeds, ap (credit speeds) e))
+        (λ h. rw (any_some 1 h) (omega (arith, credit-charge speeds (left w k) c (small_left w))))
 
     -- so a charge for each job that can run in these ticks
-    pub given-in : (w L : ℕ)
+    pub given_in : (w L : ℕ)
         → total (λ e. given speeds (held rel left (w + e)) k) L ≤ (any (left w k) + count (λ a. rel a k) w L) * charge speeds c
-    given-in w L = omega (arith, spent w L, brought w)
+    given_in w L = omega (arith, spent w L, brought w)
 
     -- a job that is not complete after a tick took all that it was offered in it
     offered : (a : ℕ) → 0 < left (suc a) k → offer speeds rel left k a + credit speeds (left (suc a) k) ≤ credit speeds (held rel left a k)
     unfolding given
     offered a h = let e = any_some {x = held rel left a k} (offer speeds rel left k a) (omega (arith, sinks k a)) in omega (arith, paid a, e)
 
-    offered-in : (a L : ℕ) → ((e : ℕ) → 0 < e → e ≤ L → rel (a + e) k ≡ 0) → 0 < left (a + suc L) k
+    offered_in : (a L : ℕ) → ((e : ℕ) → 0 < e → e ≤ L → rel (a + e) k ≡ 0) → 0 < left (a + suc L) k
         → total (λ e. offer speeds rel left k (a + e)) (suc L) + credit speeds (left (a + suc L) k) ≤ charge speeds c
     unfolding total
-    offered-in a zero quiet h =
+    offered_in a zero quiet h =
         rw (add-suc a 0, add-zero a)
-        (omega (arith, offered a (rw (add-suc a 0, add-zero a) at h), credit-charge speeds _ c (small-held a (small-left a))))
-    offered-in a (suc L) quiet h =
+        (omega (arith, offered a (rw (add-suc a 0, add-zero a) at h), credit-charge speeds _ c (small_held a (small_left a))))
+    offered_in a (suc L) quiet h =
         let o = offered (a + suc L) (rw (add-suc a (suc L)) at h) in
-        let e = renewed-none (left (a + suc L) k) (quiet (suc L) (omega arith) (omega arith)) in
+        let e = renewed_none (left (a + suc L) k) (quiet (suc L) (omega arith) (omega arith)) in
         rw (add-suc a (suc L))
         (omega
-        (arith, o, ap (credit speeds) e, offered-in a L (λ d p l. quiet d p (omega arith)) (omega (arith, sinks k (a + suc L), rw (add-suc a (suc L)) at h, e))))
+        (arith, o, ap (credit speeds) e, offered_in a L (λ d p l. quiet d p (omega arith)) (omega (arith, sinks k (a + suc L), rw (add-suc a (suc L)) at h, e))))
 
     -- what a job was offered from its release at a on, while it is not complete and no other is released: its need
     pub unfinished : (a L : ℕ) → 0 < c → ((e : ℕ) → 0 < e → e ≤ L → rel (a + e) k ≡ 0) → 0 < left (a + suc L) k
         → total (λ e. offer speeds rel left k (a + e)) (suc L) ≤ need speeds c
-    unfinished a L pos quiet h = omega (arith, offered-in a L quiet h, credit-last speeds (left (a + suc L) k) h, charge-need speeds c pos)
+    unfinished a L pos quiet h = omega (arith, offered_in a L quiet h, credit_last speeds (left (a + suc L) k) h, charge-need speeds c pos)

@@ -9,23 +9,23 @@ use Rattle.std.proofs.Math.Seq.{get_or-set_same, get_or-set_other}
 use Rattle.paper.specs.Board.{Board}
 use Rattle.paper.specs.Releases.{Release}
 use Rattle.paper.specs.Scheduler.{State, started, answered, worked, after}
-use Rattle.paper.specs.laws.Tests.{on_same, on-eqb}
-use Rattle.paper.specs.laws.Legal.{nth}
-use Rattle.paper.specs.laws.Served.{left_of, job_of, responseOf, work-keeps}
-use Rattle.paper.specs.laws.Steps.{Holds, Steps, place_of, run-keeps}
-use Rattle.paper.specs.laws.Bridge.{Fit}
+use Rattle.paper.specs.Laws.Tests.{on_same, on_eqb}
+use Rattle.paper.specs.Laws.Legal.{nth}
+use Rattle.paper.specs.Laws.Served.{left_of, job_of, response_of, work_keeps}
+use Rattle.paper.specs.Laws.Steps.{Holds, Steps, place_of, run_keeps}
+use Rattle.paper.specs.Laws.Bridge.{Fit}
 
 -- release p has a response that is Q, and no unfinished job is its own
 pub record Settled (Q : ℕ → Type 0) (p : ℕ) (x : State) : Type 0 where
   pub jobs : length x.job ≡ 96
-  pub told : Q (responseOf x p)
+  pub told : Q (response_of x p)
   pub over : (k : ℕ) → 0 < left_of x k → job_of x k ≡ p → ⊥
 
 module _ (Q : ℕ → Type 0) (p : ℕ) where
   -- another release is made
-  start-settled : (k u n a : ℕ) (x : State) → k < 96 → (n ≡ p → ⊥) → Settled Q p x → Settled Q p (started x k u n a)
+  start_settled : (k u n a : ℕ) (x : State) → k < 96 → (n ≡ p → ⊥) → Settled Q p x → Settled Q p (started x k u n a)
   unfolding started
-  start-settled k u n a x h d g = record {
+  start_settled k u n a x h d g = record {
     jobs = simp length-set g.jobs;
     told = g.told;
     over = λ j.
@@ -35,12 +35,12 @@ module _ (Q : ℕ → Type 0) (p : ℕ) where
   }
 
   -- a ready job works
-  work-settled : (a : ℕ) (x : State) (k s : ℕ) → 0 < left_of x k → Settled Q p x → Settled Q p (worked x k s a)
+  work_settled : (a : ℕ) (x : State) (k s : ℕ) → 0 < left_of x k → Settled Q p x → Settled Q p (worked x k s a)
   unfolding worked answered
-  work-settled a x k s h g = record {
+  work_settled a x k s h g = record {
     jobs = g.jobs;
     told =
-        on-eqb (λ (v : List ℕ). Q (get_or v p 0)) (left_of x k - s) 0 _ _
+        on_eqb (λ (v : List ℕ). Q (get_or v p 0)) (left_of x k - s) 0 _ _
         (λ _. rw (get_or-set_other x.responses (job_of x k) p (a + 1 - get_or x.since k 0) 0 (λ e. g.over k h (sym e))) g.told)
         (λ _. g.told);
     over = λ j.
@@ -63,11 +63,11 @@ module _ (b : Board) (l : List Release) (f : Fit b l) (H T : ℕ) (Due : ℕ →
   steps = record {
     skips = λ a s t n x h d g. g;
     starts = λ a s t n x h e z g p d.
-        start-settled (Q p) p (place_of l n) _ n a x (omega (arith, f.some n h, f.home n h))
+        start_settled (Q p) p (place_of l n) _ n a x (omega (arith, f.some n h, f.home n h))
         (λ i. omega (arith, early p d, ap (λ q. (nth l q).at) i)) (g p d);
     meets = λ a s t n x h e d g. record { from = s; to = t };
-    works = λ a s t x g. work-keeps a AllSettled (λ y k v h i p d. work-settled (Q p) p a y k v h (i p d)) b.speeds x g;
+    works = λ a s t x g. work_keeps a AllSettled (λ y k v h i p d. work_settled (Q p) p a y k v h (i p d)) b.speeds x g;
   }
 
-  pub stays-settled : H ≤ T → Holds (Between H T) AllSettled (after b l H) → Holds (Between H T) AllSettled (after b l T)
-  stays-settled h g = let d = le_dest h in rw d.1 at (run-keeps b l H T (Between H T) (λ _ _. AllSettled) steps d.0 (omega (arith, d.1)) g)
+  pub stays_settled : H ≤ T → Holds (Between H T) AllSettled (after b l H) → Holds (Between H T) AllSettled (after b l T)
+  stays_settled h g = let d = le_dest h in rw d.1 at (run_keeps b l H T (Between H T) (λ _ _. AllSettled) steps d.0 (omega (arith, d.1)) g)

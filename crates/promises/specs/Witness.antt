@@ -2,17 +2,17 @@
 -- Assumes nothing.
 use Rattle.std.specs.Prelude.{◌≡◌, refl, List, [], ◌∷◌, ℕ, replicate}
 use Rattle.std.proofs.Common.{arith}
-use Rattle.paper.specs.Basics.{bytes, bytesFrom, sum, roundedUp}
-use Rattle.paper.specs.Text.{whole, atEnd, one, numbered, afterKey, ranged, number_at, digits, times, and_then}
-use Rattle.paper.specs.Board.{Task, Board, readBoard, readTask}
-use Rattle.paper.specs.Certificate.{judged, unlessRising, rising, walk, followedBy, withSlack, judge, demand, load, jobs, charge, need, firstUncovered, covered, S}
-use Rattle.paper.specs.Releases.{Release, Releases, readRelease, readReleases, rises, apart, faultOr, legalFrom, legality}
-use Rattle.paper.specs.Check.{check, checkRead, checkedAs}
-use Rattle.paper.specs.Run.{Both, readBoth}
+use Rattle.paper.specs.Basics.{bytes, bytes_from, sum, rounded_up}
+use Rattle.paper.specs.Text.{whole, at_end, one, numbered, after_key, ranged, number_at, digits, times, and_then}
+use Rattle.paper.specs.Board.{Task, Board, read_board, read_task}
+use Rattle.paper.specs.Certificate.{judged, unless_rising, rising, walk, followed_by, with_slack, judge, demand, load, jobs, charge, need, first_uncovered, covered, S}
+use Rattle.paper.specs.Releases.{Release, Releases, read_release, read_releases, rises, apart, fault_or, legal_from, legality}
+use Rattle.paper.specs.Check.{check, check_read, checked_as}
+use Rattle.paper.specs.Run.{Both, read_both}
 use Rattle.promises.specs.Promises.{Asked}
 
-abbrev boardB : List ℕ
-boardB = bytes "procs=3\ns=7\ns=2\ns=1\ntasks=4\nc=49\nd=1000\nt=1000\nr=7\ny=0\nz=1\nq=7\nc=14\nd=1000\nt=1000\nr=8\ny=5\nz=7\nq=49\nc=7\nd=1000\nt=1000\nr=9\ny=5\nz=7\nq=49\nc=21\nd=1000\nt=1000\nr=12\ny=5\nz=7\nq=49\n"
+abbrev board_b : List ℕ
+board_b = bytes "procs=3\ns=7\ns=2\ns=1\ntasks=4\nc=49\nd=1000\nt=1000\nr=7\ny=0\nz=1\nq=7\nc=14\nd=1000\nt=1000\nr=8\ny=5\nz=7\nq=49\nc=7\nd=1000\nt=1000\nr=9\ny=5\nz=7\nq=49\nc=21\nd=1000\nt=1000\nr=12\ny=5\nz=7\nq=49\n"
 
 abbrev list7 : List ℕ
 list7 = bytes "ticks=12\nreleases=4\nat=0\ntask=1\nunits=0\nat=0\ntask=4\nunits=0\nat=7\ntask=2\nunits=0\nat=9\ntask=3\nunits=0\n"
@@ -29,6 +29,6 @@ both = record {
   releases = record { ticks = 12; list = at 0 1 ∷ at 0 4 ∷ at 7 2 ∷ at 9 3 ∷ [] };
 }
 
-pub met : Asked boardB list7 (replicate 4 0) both
-unfolding bytes bytesFrom sum roundedUp whole atEnd one numbered afterKey ranged number_at digits times and_then readBoard readTask readRelease readReleases readBoth judged unlessRising rising walk followedBy withSlack judge demand load jobs charge need firstUncovered covered S rises apart faultOr legalFrom legality check checkRead checkedAs
+pub met : Asked board_b list7 (replicate 4 0) both
+unfolding bytes bytes_from sum rounded_up whole at_end one numbered after_key ranged number_at digits times and_then read_board read_task read_release read_releases read_both judged unless_rising rising walk followed_by with_slack judge demand load jobs charge need first_uncovered covered S rises apart fault_or legal_from legality check check_read checked_as
 met = record { accepted = refl; rest = []; lines = _; reads = refl; legal = refl; enough = omega arith }

@@ -10,19 +10,19 @@ use borrow.Author.Tests.{eq-eqb, ne_eqb}
 use Rattle.scheduler.specs.Tick.{Answered}
 
 module _ (count p since left a : ℕ) (before : List ℕ) where
-  pub answered-complete : left ≡ 0 → p < count → Answered count p since left a before (set before p (a + 1 - since))
-  answered-complete e h = record {
+  pub answered_complete : left ≡ 0 → p < count → Answered count p since left a before (set before p (a + 1 - since))
+  answered_complete e h = record {
     first = rw (eq-eqb left 0 e) (take-set-lt count before p (a + 1 - since) h);
     rest = drop-set-lt count before p (a + 1 - since) h;
     long = length-set before p (a + 1 - since);
   }
 
-  pub answered-nowhere : left ≡ 0 → count ≤ p → Answered count p since left a before before
-  answered-nowhere e h = record {
+  pub answered_nowhere : left ≡ 0 → count ≤ p → Answered count p since left a before before
+  answered_nowhere e h = record {
     first = rw (eq-eqb left 0 e) (sym (set_out (take count before) p (a + 1 - since) (rw length-take (omega arith))));
     rest = refl;
     long = refl;
   }
 
-  pub answered-not-yet : (left ≡ 0 → ⊥) → Answered count p since left a before before
-  answered-not-yet e = record { first = rw (ne_eqb left 0 e); rest = refl; long = refl }
+  pub answered_not_yet : (left ≡ 0 → ⊥) → Answered count p since left a before before
+  answered_not_yet e = record { first = rw (ne_eqb left 0 e); rest = refl; long = refl }

@@ -31,22 +31,22 @@ Values = List Val × (List Val × (List Val × (List Val × (List Val × (List V
 abbrev pub Speeds : RattleType
 Speeds = Array S.the_row 8
 
-abbrev pub speed-vals : List Speed → List Val
-speed-vals = array_vals (LL.vals S.the_type S'.the_laws)
+abbrev pub speed_vals : List Speed → List Val
+speed_vals = array_vals (LL.vals S.the_type S'.the_laws)
 
 abbrev first : List Val → Val
 first [] = vunit
 first (v ∷ vs) = v
 
 -- the one machine value of the speeds, of a slice, of the time
-abbrev pub speeds-val : List Speed → Val
-speeds-val speeds = first (speed-vals speeds)
+abbrev pub speeds_val : List Speed → Val
+speeds_val speeds = first (speed_vals speeds)
 
 abbrev pub seen : Column → Val
 seen x = slice_val x.ref_ptr (length x.now)
 
-abbrev pub time-val : Ticks → Val
-time-val time = LL.val K.the_type K'.the_laws time
+abbrev pub time_val : Ticks → Val
+time_val time = LL.val K.the_type K'.the_laws time
 
 -- their types, with the lifetime of the columns and that of the places
 abbrev pub Rows : Lft → Lft → List RattleType
@@ -55,9 +55,9 @@ Rows κa κp =
 
 abbrev pub values_of : Others → Values
 values_of (procs, (speeds, (at, (task, (units, (count, (places, (time, _)))))))) =
-    (vint w32 procs ∷ [], (speed-vals speeds, (seen at ∷ [], (seen task ∷ [], (seen units ∷ [], (vint w64 count ∷ [], (seen places ∷ [], (time-val time ∷ [], tt))))))))
+    (vint w32 procs ∷ [], (speed_vals speeds, (seen at ∷ [], (seen task ∷ [], (seen units ∷ [], (vint w64 count ∷ [], (seen places ∷ [], (time_val time ∷ [], tt))))))))
 
 -- as one list of machine values
-abbrev pub passed-of : Others → List Val
-passed-of (procs, (speeds, (at, (task, (units, (count, (places, (time, _)))))))) =
-    vint w32 procs ∷ speeds-val speeds ∷ seen at ∷ seen task ∷ seen units ∷ vint w64 count ∷ seen places ∷ time-val time ∷ []
+abbrev pub passed_of : Others → List Val
+passed_of (procs, (speeds, (at, (task, (units, (count, (places, (time, _)))))))) =
+    vint w32 procs ∷ speeds_val speeds ∷ seen at ∷ seen task ∷ seen units ∷ vint w64 count ∷ seen places ∷ time_val time ∷ []

@@ -10,22 +10,22 @@ use lib.ListN.{length, get_or, set, take, drop, length-set, length-map, length-t
 use lib.Seq.{get_or-take}
 use Rattle.paper.specs.Scheduler.{answered, worked}
 use Rattle.paper.specs.Scheduler as paper
-use Rattle.paper.specs.laws.Seats.{seat-known}
-use Rattle.paper.specs.laws.Work.{work-idle, work-taken, work-end}
+use Rattle.paper.specs.Laws.Seats.{seat_known}
+use Rattle.paper.specs.Laws.Work.{work_idle, work_taken, work_end}
 use Rattle.quantity.specs.Quantity.{units, ticks, speed, over, less}
 use Rattle.quantity.specs.declared.Speed.{Speed}
 use Rattle.quantity.specs.declared.Units.{Units}
 use Rattle.scheduler.specs.declared.RunState.{RunState}
-use Rattle.scheduler.specs.State.{unitsLeft, state_of}
-use Rattle.scheduler.specs.Laws.{left_at, left-set, length-left, since_at}
-use Rattle.scheduler.specs.Tick.{speedsOf, Answered}
+use Rattle.scheduler.specs.State.{units_left, state_of}
+use Rattle.scheduler.specs.Laws.{left_at, left_set, length_left, since_at}
+use Rattle.scheduler.specs.Tick.{speeds_of, Answered}
 
 -- what is left after one tick
-abbrev pub leftAfter : RunState → ℕ → Speed → Units
-leftAfter run k s = less (get_or run.left k (units 0)) (over s (ticks 1))
+abbrev pub left_after : RunState → ℕ → Speed → Units
+left_after run k s = less (get_or run.left k (units 0)) (over s (ticks 1))
 
-abbrev pub withLeft : RunState → ℕ → Units → RunState
-withLeft run k u = record {
+abbrev pub with_left : RunState → ℕ → Units → RunState
+with_left run k u = record {
   left = set run.left k u;
   since = run.since;
   job = run.job;
@@ -34,25 +34,25 @@ withLeft run k u = record {
   overrun = run.overrun;
 }
 
-pub state-worked : (run : RunState) (before after : List ℕ) (k : ℕ) (s : Speed) (count a : ℕ)
-    → Answered count (get_or run.job k 0) (get_or run.since k (ticks 0)).0 (leftAfter run k s).0 a before after
-    → state_of (withLeft run k (leftAfter run k s)) (take count after) ≡ worked (state_of run (take count before)) k s.0 a
+pub state_worked : (run : RunState) (before after : List ℕ) (k : ℕ) (s : Speed) (count a : ℕ)
+    → Answered count (get_or run.job k 0) (get_or run.since k (ticks 0)).0 (left_after run k s).0 a before after
+    → state_of (with_left run k (left_after run k s)) (take count after) ≡ worked (state_of run (take count before)) k s.0 a
 unfolding state_of worked answered
-state-worked run before after k s count a h =
-    rw (left-set, h.first, mul-one, left_at, since_at)
+state_worked run before after k s count a h =
+    rw (left_set, h.first, mul-one, left_at, since_at)
 
-speed-at : (procs : ℕ) (speeds : List Speed) (i : ℕ) → i < procs → get_or (speedsOf procs speeds) i 0 ≡ (get_or speeds i (speed 0)).0
-unfolding speedsOf
+speed-at : (procs : ℕ) (speeds : List Speed) (i : ℕ) → i < procs → get_or (speeds_of procs speeds) i 0 ≡ (get_or speeds i (speed 0)).0
+unfolding speeds_of
 speed-at procs speeds i h =
     get_or-map (λ (s : Speed). s.0) (take procs speeds) i (speed 0) ∙ ap (λ (s : Speed). s.0) (get_or-take procs speeds i (speed 0) h)
 
-pub length-speeds : (procs : ℕ) (speeds : List Speed) → procs ≤ length speeds → length (speedsOf procs speeds) ≡ procs
-unfolding speedsOf
-length-speeds procs speeds h = length-map (take procs speeds) (λ (s : Speed). s.0) ∙ rw (length-take procs speeds) (omega arith)
+pub length_speeds : (procs : ℕ) (speeds : List Speed) → procs ≤ length speeds → length (speeds_of procs speeds) ≡ procs
+unfolding speeds_of
+length_speeds procs speeds h = length-map (take procs speeds) (λ (s : Speed). s.0) ∙ rw (length-take procs speeds) (omega arith)
 
 -- what seats make of a state, all of them having worked
 pub record SeatsWorked (procs : ℕ) (speeds : List Speed) (seats : List ℕ) (count a : ℕ) (start : RunState) (before : List ℕ) (r : RunState) (after : List ℕ) : Type 0 where
-  pub state : state_of r (take count after) ≡ paper.work (speedsOf procs speeds) seats a (state_of start (take count before))
+  pub state : state_of r (take count after) ≡ paper.work (speeds_of procs speeds) seats a (state_of start (take count before))
   pub rest : drop count after ≡ drop count before
   pub long : length after ≡ length before
   pub table : r.table ≡ start.table
@@ -71,8 +71,8 @@ pub record Working (procs : ℕ) (speeds : List Speed) (seats : List ℕ) (count
   pub overrun : run.overrun ≡ start.overrun
   pub long : length after ≡ length before
   pub rest : drop count after ≡ drop count before
-  pub same : paper.work (drop i (speedsOf procs speeds)) (drop i seats) a (state_of run (take count after))
-      ≡ paper.work (speedsOf procs speeds) seats a (state_of start (take count before))
+  pub same : paper.work (drop i (speeds_of procs speeds)) (drop i seats) a (state_of run (take count after))
+      ≡ paper.work (speeds_of procs speeds) seats a (state_of start (take count before))
 
 module _ (procs : ℕ) (speeds : List Speed) (seats : List ℕ) (count a : ℕ) (start : RunState) (before : List ℕ) where
   pub begins : ((k : ℕ) → get_or seats k 0 ≤ 96) → length start.left ≡ 96 → length start.since ≡ 96 → length start.job ≡ 96
@@ -106,14 +106,14 @@ module _ (procs : ℕ) (speeds : List Speed) (seats : List ℕ) (count a : ℕ) 
       long = inv.long;
       rest = inv.rest;
       same =
-          let short = length-speeds procs speeds all in
+          let short = length_speeds procs speeds all in
           rw (add-one i)
-          (sym (work-idle a (state_of run (take count after)) (speedsOf procs speeds) seats i (omega arith) (omega arith) e) ∙ inv.same);
+          (sym (work_idle a (state_of run (take count after)) (speeds_of procs speeds) seats i (omega arith) (omega arith) e) ∙ inv.same);
     }
 
     taken : (later : List ℕ) → (get_or seats i 0 ≡ 0 → ⊥)
-        → Answered count (get_or run.job (get_or seats i 0 - 1) 0) (get_or run.since (get_or seats i 0 - 1) (ticks 0)).0 (leftAfter run (get_or seats i 0 - 1) (get_or speeds i (speed 0))).0 a after later
-        → Working procs speeds seats count a start before (withLeft run (get_or seats i 0 - 1) (leftAfter run (get_or seats i 0 - 1) (get_or speeds i (speed 0)))) later (i + 1)
+        → Answered count (get_or run.job (get_or seats i 0 - 1) 0) (get_or run.since (get_or seats i 0 - 1) (ticks 0)).0 (left_after run (get_or seats i 0 - 1) (get_or speeds i (speed 0))).0 a after later
+        → Working procs speeds seats count a start before (with_left run (get_or seats i 0 - 1) (left_after run (get_or seats i 0 - 1) (get_or speeds i (speed 0)))) later (i + 1)
     taken later e answer =
         let k : ℕ = get_or seats i 0 - 1 in
         let s : Speed = get_or speeds i (speed 0) in
@@ -129,29 +129,29 @@ module _ (procs : ℕ) (speeds : List Speed) (seats : List ℕ) (count a : ℕ) 
           long = answer.long ∙ inv.long;
           rest = answer.rest ∙ inv.rest;
           same =
-              let short = length-speeds procs speeds all in
-              rw (add-one i, state-worked run after later k s count a answer)
-              (ap (λ (v : ℕ). paper.work (drop (suc i) (speedsOf procs speeds)) (drop (suc i) seats) a (worked (state_of run (take count after)) k v a)) (sym (speed-at procs speeds i h))
-              ∙ sym (work-taken a (state_of run (take count after)) (speedsOf procs speeds) seats i (omega arith) (omega arith) e)
+              let short = length_speeds procs speeds all in
+              rw (add-one i, state_worked run after later k s count a answer)
+              (ap (λ (v : ℕ). paper.work (drop (suc i) (speeds_of procs speeds)) (drop (suc i) seats) a (worked (state_of run (take count after)) k v a)) (sym (speed-at procs speeds i h))
+              ∙ sym (work_taken a (state_of run (take count after)) (speeds_of procs speeds) seats i (omega arith) (omega arith) e)
               ∙ inv.same);
         }
 
     -- the same, of what the code worked out
-    pub taken_as : (later : List ℕ) (u : Units) → u ≡ leftAfter run (get_or seats i 0 - 1) (get_or speeds i (speed 0)) → (get_or seats i 0 ≡ 0 → ⊥)
+    pub taken_as : (later : List ℕ) (u : Units) → u ≡ left_after run (get_or seats i 0 - 1) (get_or speeds i (speed 0)) → (get_or seats i 0 ≡ 0 → ⊥)
         → Answered count (get_or run.job (get_or seats i 0 - 1) 0) (get_or run.since (get_or seats i 0 - 1) (ticks 0)).0 u.0 a after later
-        → Working procs speeds seats count a start before (withLeft run (get_or seats i 0 - 1) u) later (i + 1)
+        → Working procs speeds seats count a start before (with_left run (get_or seats i 0 - 1) u) later (i + 1)
     taken_as later u e ne =
         let k : ℕ = get_or seats i 0 - 1 in
         subst
-        (λ (v : Units). Answered count (get_or run.job k 0) (get_or run.since k (ticks 0)).0 v.0 a after later → Working procs speeds seats count a start before (withLeft run k v) later (i + 1))
+        (λ (v : Units). Answered count (get_or run.job k 0) (get_or run.since k (ticks 0)).0 v.0 a after later → Working procs speeds seats count a start before (with_left run k v) later (i + 1))
         (sym e) (taken later ne)
 
   pub ends : (run : RunState) (after : List ℕ) (i : ℕ) → Working procs speeds seats count a start before run after i → procs ≤ i → procs ≤ length speeds
       → SeatsWorked procs speeds seats count a start before run after
   ends run after i inv h all =
-      let short = length-speeds procs speeds all in
+      let short = length_speeds procs speeds all in
       record {
-        state = sym (work-end a (state_of run (take count after)) (speedsOf procs speeds) seats i (omega arith)) ∙ inv.same;
+        state = sym (work_end a (state_of run (take count after)) (speeds_of procs speeds) seats i (omega arith)) ∙ inv.same;
         rest = inv.rest;
         long = inv.long;
         table = inv.table;
@@ -159,8 +159,8 @@ module _ (procs : ℕ) (speeds : List Speed) (seats : List ℕ) (count a : ℕ) 
         overrun = inv.overrun;
       }
 
-abbrev pub withTable : RunState → List ℕ → RunState
-withTable run seats = record {
+abbrev pub with_table : RunState → List ℕ → RunState
+with_table run seats = record {
   left = run.left;
   since = run.since;
   job = run.job;
@@ -169,28 +169,28 @@ withTable run seats = record {
   overrun = run.overrun;
 }
 
-state-table : (run : RunState) (seats : List ℕ) (rs : List ℕ) → state_of (withTable run seats) rs ≡ state_of run rs
+state_table : (run : RunState) (seats : List ℕ) (rs : List ℕ) → state_of (with_table run seats) rs ≡ state_of run rs
 unfolding state_of
-state-table run seats rs = refl
+state_table run seats rs = refl
 
 -- what the seats and the work of tick a make of `run` and the lent places
 pub record Worked (procs : ℕ) (speeds : List Speed) (count a : ℕ) (run : RunState) (before : List ℕ) (r : RunState) (after : List ℕ) : Type 0 where
   pub state : state_of r (take count after)
-      ≡ paper.work (speedsOf procs speeds) (paper.table procs (unitsLeft run.left)) a (state_of run (take count before))
-  pub seats : r.table ≡ paper.table procs (unitsLeft run.left)
+      ≡ paper.work (speeds_of procs speeds) (paper.table procs (units_left run.left)) a (state_of run (take count before))
+  pub seats : r.table ≡ paper.table procs (units_left run.left)
   pub rest : drop count after ≡ drop count before
   pub long : length after ≡ length before
   pub next : r.next ≡ run.next
   pub overrun : r.overrun ≡ run.overrun
 
 -- and the seats are the paper's
-pub worked-by : (procs : ℕ) (speeds : List Speed) (seats : List ℕ) (count a : ℕ) (start : RunState) (before : List ℕ) (r : RunState) (after : List ℕ)
-    → seats ≡ paper.table procs (unitsLeft start.left) → SeatsWorked procs speeds seats count a (withTable start seats) before r after
+pub worked_by : (procs : ℕ) (speeds : List Speed) (seats : List ℕ) (count a : ℕ) (start : RunState) (before : List ℕ) (r : RunState) (after : List ℕ)
+    → seats ≡ paper.table procs (units_left start.left) → SeatsWorked procs speeds seats count a (with_table start seats) before r after
     → Worked procs speeds count a start before r after
-worked-by procs speeds seats count a start before r after e w = record {
+worked_by procs speeds seats count a start before r after e w = record {
   state =
-      w.state ∙ ap (paper.work (speedsOf procs speeds) seats a) (state-table start seats (take count before))
-      ∙ ap (λ (l : List ℕ). paper.work (speedsOf procs speeds) l a (state_of start (take count before))) e;
+      w.state ∙ ap (paper.work (speeds_of procs speeds) seats a) (state_table start seats (take count before))
+      ∙ ap (λ (l : List ℕ). paper.work (speeds_of procs speeds) l a (state_of start (take count before))) e;
   seats = w.table ∙ e;
   rest = w.rest;
   long = w.long;
@@ -199,7 +199,7 @@ worked-by procs speeds seats count a start before r after e w = record {
 }
 
 -- who sits is one of the 96 tasks
-pub seat-within : (procs : ℕ) (left : List Units) (seats : List ℕ) → length left ≡ 96 → seats ≡ paper.table procs (unitsLeft left) → (k : ℕ) → get_or seats k 0 ≤ 96
-seat-within procs left seats all e k =
+pub seat_within : (procs : ℕ) (left : List Units) (seats : List ℕ) → length left ≡ 96 → seats ≡ paper.table procs (units_left left) → (k : ℕ) → get_or seats k 0 ≤ 96
+seat_within procs left seats all e k =
     subst (λ (l : List ℕ). get_or l k 0 ≤ 96) (sym e)
-    (subst (λ (n : ℕ). get_or (paper.table procs (unitsLeft left)) k 0 ≤ n) (length-left left ∙ all) (seat-known procs (unitsLeft left) k))
+    (subst (λ (n : ℕ). get_or (paper.table procs (units_left left)) k 0 ≤ n) (length_left left ∙ all) (seat_known procs (units_left left) k))

@@ -1,11 +1,11 @@
 -- What a tick is given and what it promises, in the paper's words.
 use Rattle.std.specs.Prelude.{◌≡◌, ℕ, suc, ◌+◌, ◌-◌, ◌≤◌, ◌<◌, List, map, true, false, cond, length, get_or, set, take, drop, eqb}
 use Rattle.paper.specs.Board.{Board}
-use Rattle.paper.specs.laws.Reading.{In}
+use Rattle.paper.specs.Laws.Reading.{In}
 use Rattle.paper.specs.Scheduler.{Ran, ran, overran, release, table, tick}
 use Rattle.quantity.specs.declared.Speed.{Speed}
-use Rattle.releases.specs.Packed.{releasesFrom}
-use Rattle.scheduler.specs.State.{unitsLeft, state_of}
+use Rattle.releases.specs.Packed.{releases_from}
+use Rattle.scheduler.specs.State.{units_left, state_of}
 use Rattle.scheduler.specs.declared.RunState.{RunState}
 
 -- the first `count` places of three columns are the releases of a legal list, with every release's units named
@@ -13,7 +13,7 @@ pub record Listed (at task units : List ℕ) (count : ℕ) : Type 0 where
   pub few : count ≤ 1000
   pub at_places : count ≤ length at
   pub task-places : count ≤ length task
-  pub unit-places : count ≤ length units
+  pub unit_places : count ≤ length units
   pub rising : (p : ℕ) → suc p < count → get_or at p 0 ≤ get_or at (suc p) 0
   pub known : (p : ℕ) → p < count → In 1 96 (get_or task p 0)
   pub named : (p : ℕ) → p < count → 0 < get_or units p 0
@@ -41,14 +41,14 @@ stopped run next =
 -- what the releases of tick a make of `run`
 pub record Released (at task units : List ℕ) (count a : ℕ) (run r : RunState) : Type 0 where
   pub release : (b : Board) (responses : List ℕ)
-      → told r responses a ≡ release b a 0 (releasesFrom at task units 0 count) (state_of run responses)
+      → told r responses a ≡ release b a 0 (releases_from at task units 0 count) (state_of run responses)
   pub table : r.table ≡ run.table
   pub cursor : r.overrun ≡ false → Cursor at count r.next (a + 1)
   pub stopped : r.overrun ≡ true → r ≡ stopped run r.next
 
 -- the speeds of the processors that there are
-unfoldable pub speedsOf : ℕ → List Speed → List ℕ
-speedsOf procs speeds = map (λ (s : Speed). s.0) (take procs speeds)
+unfoldable pub speeds_of : ℕ → List Speed → List ℕ
+speeds_of procs speeds = map (λ (s : Speed). s.0) (take procs speeds)
 
 -- the lent places when a job of `left` units, that of release p, released at `since`, ends tick a
 pub record Answered (count p since left a : ℕ) (before after : List ℕ) : Type 0 where
@@ -65,17 +65,17 @@ pub record Standing (procs : ℕ) (at task units : List ℕ) (count a : ℕ) (ru
   pub horizon : a ≤ 1000000
 
 -- who sits where once the releases are made; an overrun leaves the seats as they were
-unfoldable pub seatedAfter : List ℕ → ℕ → Ran → List ℕ
-seatedAfter seats procs (ran x) = table procs x.left
-seatedAfter seats procs (overran p a) = seats
+unfoldable pub seated_after : List ℕ → ℕ → Ran → List ℕ
+seated_after seats procs (ran x) = table procs x.left
+seated_after seats procs (overran p a) = seats
 
 -- what tick a makes of `run` and the lent places: the paper's tick, for any board with these speeds. The first `count` places
 -- are the responses, the others stay. An overrun changes neither the 96 places nor the lent ones.
 pub record Ticked (procs : ℕ) (speeds : List Speed) (at task units : List ℕ) (count a : ℕ) (run : RunState) (before : List ℕ) (r : RunState) (after : List ℕ) : Type 0 where
-  pub tick : (b : Board) → b.speeds ≡ speedsOf procs speeds
-      → told r (take count after) a ≡ tick b (releasesFrom at task units 0 count) a (state_of run (take count before))
+  pub tick : (b : Board) → b.speeds ≡ speeds_of procs speeds
+      → told r (take count after) a ≡ tick b (releases_from at task units 0 count) a (state_of run (take count before))
   pub table : (b : Board)
-      → r.table ≡ seatedAfter run.table procs (release b a 0 (releasesFrom at task units 0 count) (state_of run (take count before)))
+      → r.table ≡ seated_after run.table procs (release b a 0 (releases_from at task units 0 count) (state_of run (take count before)))
   pub rest : drop count after ≡ drop count before
   pub long : length after ≡ length before
   pub cursor : r.overrun ≡ false → Cursor at count r.next (a + 1)

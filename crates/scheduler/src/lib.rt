@@ -1,7 +1,7 @@
 // The scheduler, tick by tick: what became ready, who sits where, and what work leaves.
 ghost use Rattle.std.specs.Prelude.{◌≡◌, ◌+◌, ◌≤◌, ◌<◌, ◌^◌, length};
 ghost use Rattle.paper.specs.Scheduler.{table};
-ghost use Rattle.scheduler.specs.State.{freshRun, unitsLeft};
+ghost use Rattle.scheduler.specs.State.{fresh_run, units_left};
 ghost use Rattle.scheduler.specs.Tick.{Listed, Going, Released, Answered, Standing, Ticked};
 
 use quantity::{Speed, Ticks, Units};
@@ -21,7 +21,7 @@ pub struct RunState {
 
 // A fresh run: 96 empty task places.
 pub fn fresh() -> RunState
-    ensures { result ≡ freshRun }
+    ensures { result ≡ fresh_run }
 {
     RunState {
         left: [Units(0); 96],
@@ -36,7 +36,7 @@ pub fn fresh() -> RunState
 // Who sits on which processor: the first tasks that have something left, in order, 0 for an idle or absent place.
 pub fn dispatch(left: [Units; 96], procs: u32) -> [u32; 8]
     requires { procs ≤ 8 }
-    ensures { result ≡ table procs (unitsLeft left) }
+    ensures { result ≡ table procs (units_left left) }
 {
     let most = procs as usize;
     let mut table = [0u32; 8];

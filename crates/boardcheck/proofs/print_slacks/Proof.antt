@@ -5,13 +5,13 @@ use mathlib.Core.Path.{◌≡◌}
 use native.Mathlib.Omega.{arith}
 use lib.ListN.{length, take, get_or, length-map, get_or-map}
 use borrow.Author.Rules.{rules}
-use Rattle.paper.specs.Basics.{bytes, bytesFrom}
-use Rattle.paper.specs.Output.{printedAll}
+use Rattle.paper.specs.Basics.{bytes, bytes_from}
+use Rattle.paper.specs.Output.{printed_all}
 use Rattle.quantity.specs.Quantity.{units}
 use Rattle.quantity.specs.declared.Units.{Units}
 use Rattle.text.specs.Printing.{Placed}
-use Rattle.text.specs.Placing.{placed-none, placed-length, line-next}
-use Rattle.verdict.specs.Checks.{slackNumbers}
+use Rattle.text.specs.Placing.{placed_none, placed_length, line_next}
+use Rattle.verdict.specs.Checks.{slack_numbers}
 use Rattle.boardcheck.proofs.print_slacks.Statement.{statement}
 use Rattle.boardcheck.proofs.print_slacks.Tie as tie
 use Rattle.boardcheck.proofs.print_slacks.Reads as reads
@@ -20,7 +20,7 @@ use Rattle.text.proofs.print.print_line.Reads as print-line-reads
 
 abbrev invariant-loop : tie.invariant-loop
 invariant-loop out₀ at count slacks end₀ i₀ t9 out end i =
-    (i ≤ count) × (end ≤ at + 27 * i) × Placed out₀ at (printedAll "slack=" (take i (slackNumbers slacks))) out end
+    (i ≤ count) × (end ≤ at + 27 * i) × Placed out₀ at (printed_all "slack=" (take i (slack_numbers slacks))) out end
 
 abbrev decreases-loop : tie.decreases-loop
 decreases-loop out₀ at count slacks end₀ i₀ t9 out end i = count - i
@@ -30,8 +30,8 @@ full c = search rules
 
 -- src/main.rt:16:5
 loop-holds : tie.Need-loop-init invariant-loop decreases-loop
-unfolding printedAll
-loop-holds c = (omega arith, omega arith, placed-none c.before.args.out.now c.before.args.at (omega arith))
+unfolding printed_all
+loop-holds c = (omega arith, omega arith, placed_none c.before.args.out.now c.before.args.at (omega arith))
 
 -- src/main.rt:17:21
 mul-slack : tie.Need-overflow-mul-slack invariant-loop decreases-loop
@@ -59,18 +59,18 @@ loop-less c = search rules
 
 -- src/main.rt:16:5
 loop-again : tie.Need-loop-preserved invariant-loop decreases-loop
-unfolding bytes bytesFrom
+unfolding bytes bytes_from
 loop-again c =
     let l = c.before.before.before.before.before.before.before.loop in
     let a = c.before.before.before.before.before.before.before.before.before.args in
     let e = get_or-map (λ (u : Units). u.0) a.t3 l.i (units 0) in
-    let n : l.i < length (slackNumbers a.t3) = simp length-map (omega (arith, full c)) in
-    let k = line-next a.at l.end c.before.before.print-line.result "slack=" (slackNumbers a.t3) l.i l.invariant.2 (rw (← e) at c.before.before.print-line.ensures) n (omega arith) in
+    let n : l.i < length (slack_numbers a.t3) = simp length-map (omega (arith, full c)) in
+    let k = line_next a.at l.end c.before.before.print-line.result "slack=" (slack_numbers a.t3) l.i l.invariant.2 (rw (← e) at c.before.before.print-line.ensures) n (omega arith) in
     (omega arith, omega (arith, k.1), k.0)
 
 -- src/main.rt:10:1
 same_length : tie.Need-same-length invariant-loop decreases-loop
-same_length c = omega (arith, placed-length c.before.loop.invariant.2)
+same_length c = omega (arith, placed_length c.before.loop.invariant.2)
 
 -- src/main.rt:10:1
 returns : tie.Need-returns invariant-loop decreases-loop

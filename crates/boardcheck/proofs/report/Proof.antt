@@ -3,10 +3,10 @@
 use mathlib.Core.Path.{ap, ◌∙◌}
 use native.Mathlib.Omega.{arith}
 use Rattle.console.specs.Counted.{reported}
-use Rattle.paper.specs.Answers.{numbersOf}
-use Rattle.paper.specs.Output.{checkPrints}
-use Rattle.text.specs.Placing.{placed-then, placed-length, numbers-short}
-use Rattle.verdict.specs.Checks.{packedCheck}
+use Rattle.paper.specs.Answers.{numbers_of}
+use Rattle.paper.specs.Output.{check_prints}
+use Rattle.text.specs.Placing.{placed_then, placed_length, numbers_short}
+use Rattle.verdict.specs.Checks.{packed_check}
 use Rattle.verdict.specs.Promise.{slack-numbers}
 use Rattle.verdict.specs.declared.Checked.{Checked}
 use borrow.Author.Rules.{rules}
@@ -41,7 +41,7 @@ print-slacks-requires c κs =
     let checks = c.before.before.before.before.before.before.before.before.check.ensures in
     let few = (slack-numbers c.before.before.before.before.before.before.before.before.before.before.before.args.board.now _ checks).0 in
     let p = c.before.before.before.before.print-numbers.ensures in
-    (few, omega (arith, few, p.ends, numbers-short c.before.before.before.before.before.numbers.result, placed-length p))
+    (few, omega (arith, few, p.ends, numbers_short c.before.before.before.before.before.numbers.result, placed_length p))
 
 -- src/main.rt:25:1
 same_length : tie.Need-same-length
@@ -49,16 +49,16 @@ same_length c = search rules
 
 -- src/main.rt:25:1
 returns : tie.Need-returns
-unfolding checkPrints packedCheck
+unfolding check_prints packed_check
 returns c =
     let k = c.before.before.before in
     let text = k.before.before.before.before.before.before.before.before.before.before.before.args.board.now in
     let checks = k.before.before.before.before.before.before.before.before.check.ensures in
     let slacks = (slack-numbers text _ checks).1 in
-    let n = k.before.before.before.before.before.numbers.ensures ∙ ap (λ (r : Checked). numbersOf r.answer) checks in
+    let n = k.before.before.before.before.before.numbers.ensures ∙ ap (λ (r : Checked). numbers_of r.answer) checks in
     let p = rw n at k.before.before.before.before.print-numbers.ensures in
     let q = rw slacks at c.before.before.print-slacks.ensures in
-    reported (placed-then p q)
+    reported (placed_then p q)
 
 pub report-spec : {M : Type 1} → statement M
 report-spec =

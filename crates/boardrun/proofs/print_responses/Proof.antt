@@ -5,10 +5,10 @@ use mathlib.Core.Path.{◌≡◌}
 use native.Mathlib.Omega.{arith}
 use lib.ListN.{take}
 use borrow.Author.Rules.{rules}
-use Rattle.paper.specs.Basics.{bytes, bytesFrom}
-use Rattle.paper.specs.Output.{printedAll}
+use Rattle.paper.specs.Basics.{bytes, bytes_from}
+use Rattle.paper.specs.Output.{printed_all}
 use Rattle.text.specs.Printing.{Placed}
-use Rattle.text.specs.Placing.{placed-none, placed-length, line-next}
+use Rattle.text.specs.Placing.{placed_none, placed_length, line_next}
 use Rattle.boardrun.proofs.print_responses.Statement.{statement}
 use Rattle.boardrun.proofs.print_responses.Tie as tie
 use Rattle.boardrun.proofs.print_responses.Reads as reads
@@ -17,15 +17,15 @@ use Rattle.text.proofs.print.print_line.Reads as print-line-reads
 
 abbrev invariant-loop : tie.invariant-loop
 invariant-loop out₀ at places count end₀ i₀ t7 out end i =
-    (i ≤ count) × (end ≤ at + 30 * i) × Placed out₀ at (printedAll "response=" (take i places)) out end
+    (i ≤ count) × (end ≤ at + 30 * i) × Placed out₀ at (printed_all "response=" (take i places)) out end
 
 abbrev decreases-loop : tie.decreases-loop
 decreases-loop out₀ at places count end₀ i₀ t7 out end i = count - i
 
 -- src/main.rt:15:5
 loop-holds : tie.Need-loop-init invariant-loop decreases-loop
-unfolding printedAll
-loop-holds c = (omega arith, omega arith, placed-none c.before.before.args.out.now c.before.before.args.at (omega arith))
+unfolding printed_all
+loop-holds c = (omega arith, omega arith, placed_none c.before.before.args.out.now c.before.before.args.at (omega arith))
 
 -- src/main.rt:16:49
 slice-aggregate-print-line : tie.Need-slice-aggregate-print-line invariant-loop decreases-loop
@@ -57,16 +57,16 @@ loop-less c = search rules
 
 -- src/main.rt:15:5
 loop-again : tie.Need-loop-preserved invariant-loop decreases-loop
-unfolding bytes bytesFrom
+unfolding bytes bytes_from
 loop-again c =
     let l = c.before.before.before.before.before.before.before.loop in
     let a = c.before.before.before.before.before.before.before.before.before.before.args in
-    let k = line-next a.at l.end c.before.before.print-line.result "response=" a.places.now l.i l.invariant.2 c.before.before.print-line.ensures (omega arith) (omega arith) in
+    let k = line_next a.at l.end c.before.before.print-line.result "response=" a.places.now l.i l.invariant.2 c.before.before.print-line.ensures (omega arith) (omega arith) in
     (omega arith, omega (arith, k.1), k.0)
 
 -- src/main.rt:9:1
 same_length : tie.Need-same-length invariant-loop decreases-loop
-same_length c = omega (arith, placed-length c.before.loop.invariant.2)
+same_length c = omega (arith, placed_length c.before.loop.invariant.2)
 
 -- src/main.rt:9:1
 returns : tie.Need-returns invariant-loop decreases-loop

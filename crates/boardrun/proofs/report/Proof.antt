@@ -4,10 +4,10 @@ use mathlib.Core.Path.{◌≡◌, ap, ◌∙◌}
 use native.Mathlib.Omega.{arith}
 use lib.ListN.{length, replicate}
 use Rattle.console.specs.Counted.{reported}
-use Rattle.paper.specs.Answers.{numbersOf}
-use Rattle.paper.specs.Output.{runPrints}
-use Rattle.text.specs.Placing.{placed-then, placed-length, numbers-short}
-use Rattle.run.specs.Responses.{responses-first, responses-fit}
+use Rattle.paper.specs.Answers.{numbers_of}
+use Rattle.paper.specs.Output.{run_prints}
+use Rattle.text.specs.Placing.{placed_then, placed_length, numbers_short}
+use Rattle.run.specs.Responses.{responses_first, responses_fit}
 use borrow.Author.Rules.{rules}
 use Rattle.boardrun.proofs.report.Statement.{statement}
 use Rattle.boardrun.proofs.report.Tie as tie
@@ -46,10 +46,10 @@ cast-print-responses c = search rules
 print-responses-requires : tie.Need-print-responses-requires
 print-responses-requires c κs =
     let k = c.before.before.before.before.before.before.before.before.before.run in
-    let fit = responses-fit c.before.before.before.before.before.before.before.before.before.before.before.before.before.args.both.now (replicate 1000 0) k.result k.new.1.0 k.ensures in
+    let fit = responses_fit c.before.before.before.before.before.before.before.before.before.before.before.before.before.args.both.now (replicate 1000 0) k.result k.new.1.0 k.ensures in
     let full : length k.new.1.0 ≡ 1000 = search rules in
     let p = c.before.before.before.before.before.print-numbers.ensures in
-    (fit, omega (arith, fit, full, p.ends, numbers-short c.before.before.before.before.before.before.numbers.result, placed-length p))
+    (fit, omega (arith, fit, full, p.ends, numbers_short c.before.before.before.before.before.before.numbers.result, placed_length p))
 
 -- src/main.rt:24:1
 same_length : tie.Need-same-length
@@ -57,15 +57,15 @@ same_length c = search rules
 
 -- src/main.rt:24:1
 returns : tie.Need-returns
-unfolding runPrints
+unfolding run_prints
 returns c =
     let k = c.before.before.before in
     let text = k.before.before.before.before.before.before.before.before.before.before.before.before.before.args.both.now in
     let ran = k.before.before.before.before.before.before.before.before.before.run in
-    let n = k.before.before.before.before.before.before.numbers.ensures ∙ ap numbersOf ran.ensures.answer in
+    let n = k.before.before.before.before.before.before.numbers.ensures ∙ ap numbers_of ran.ensures.answer in
     let p = rw n at k.before.before.before.before.before.print-numbers.ensures in
-    let q = rw (responses-first text (replicate 1000 0) ran.result ran.new.1.0 ran.ensures) at c.before.before.print-responses.ensures in
-    reported (placed-then p q)
+    let q = rw (responses_first text (replicate 1000 0) ran.result ran.new.1.0 ran.ensures) at c.before.before.print-responses.ensures in
+    reported (placed_then p q)
 
 pub report-spec : {M : Type 1} → statement M
 report-spec =

@@ -10,34 +10,34 @@ use borrow.Author.Tests.{ltb-true, ltb-false, not-true, not-false}
 use borrow.Author.Rules.{rules}
 use Rattle.paper.specs.Basics.{sum}
 use Rattle.paper.specs.Board.{Task}
-use Rattle.paper.specs.laws.Judging.{uncoveredFrom, column-covered, column-uncovered, columns-end}
+use Rattle.paper.specs.Laws.Judging.{uncovered_from, column-covered, column_uncovered, columns_end}
 use Rattle.paper.specs.Certificate.{covered, demand, load as load_of}
 use Rattle.quantity.specs.declared.Units.{Units}
 use Rattle.quantity.specs.Quantity.{units}
-use Rattle.quantity.specs.Speeds.{speeds-length}
-use Rattle.board.specs.Rules.{length-mapped}
+use Rattle.quantity.specs.Speeds.{speeds_length}
+use Rattle.board.specs.Rules.{length_mapped}
 use Rattle.board.specs.declared.Board.{Board}
-use Rattle.board.specs.Packed.{taskAt, tasksFrom}
+use Rattle.board.specs.Packed.{task_at, tasks_from}
 use Rattle.certificate.specs.Columns.{Tables}
-use Rattle.certificate.specs.Filling.{own-slow}
-use Rattle.certificate.specs.Walked.{speedsIn, aboveIn, Walked, slow, fastest-slow, S-slow, load-with, demand-with, load-most, column-is, walk-starts, walk_ends, out-deadline, out-bound, out-column, out-fails, way_on}
+use Rattle.certificate.specs.Filling.{own_slow}
+use Rattle.certificate.specs.Walked.{speeds_in, above_in, Walked, slow, fastest_slow, S-slow, load_with, demand_with, load_most, column_is, walk_starts, walk_ends, out_deadline, out_bound, out_column, out_fails, way_on}
 use Rattle.certificate.proofs.judge_tasks.Statement.{statement}
 use Rattle.certificate.proofs.judge_tasks.Tie as tie
 
 abbrev invariant-search : tie.invariant-search
-invariant-search b procs tasks sums own fastest slacks i h r y z q last j₀ j = (j ≤ last + 1) × (uncoveredFrom (speedsIn b) (taskAt b i) last j ≡ uncoveredFrom (speedsIn b) (taskAt b i) last 0)
+invariant-search b procs tasks sums own fastest slacks i h r y z q last j₀ j = (j ≤ last + 1) × (uncovered_from (speeds_in b) (task_at b i) last j ≡ uncovered_from (speeds_in b) (task_at b i) last 0)
 
 abbrev decreases-search : tie.decreases-search
 decreases-search b procs tasks sums own fastest slacks i h r y z q last j₀ j = last + 1 - j
 
 abbrev invariant-loads : tie.invariant-loads
-invariant-loads b procs tasks sums own fastest slacks i h r y z q last j load₀ k₀ load k = (k ≤ i) × (load ≡ units (load_of (speedsIn b) (aboveIn b k) r.0))
+invariant-loads b procs tasks sums own fastest slacks i h r y z q last j load₀ k₀ load k = (k ≤ i) × (load ≡ units (load_of (speeds_in b) (above_in b k) r.0))
 
 abbrev decreases-loads : tie.decreases-loads
 decreases-loads b procs tasks sums own fastest slacks i h r y z q last j load₀ k₀ load k = i - k
 
 abbrev invariant-tasks : tie.invariant-tasks
-invariant-tasks b procs tasks sums own fastest slacks₀ i₀ slacks i = (length (speedsIn b) ≡ b.procs) × Walked b slacks i
+invariant-tasks b procs tasks sums own fastest slacks₀ i₀ slacks i = (length (speeds_in b) ≡ b.procs) × Walked b slacks i
 
 abbrev decreases-tasks : tie.decreases-tasks
 decreases-tasks b procs tasks sums own fastest slacks₀ i₀ slacks i = tasks - i
@@ -54,7 +54,7 @@ module _ (s : tie.After-smaller invariant-search decreases-search invariant-load
   at = s.before.before.before.before.before.before.before.before.before.before.before.before
 
   abbrev task : Task
-  task = taskAt board at.tasks.i
+  task = task_at board at.tasks.i
 
   abbrev last : ℕ
   last = s.smaller.result
@@ -71,17 +71,17 @@ module _ (s : tie.After-smaller invariant-search decreases-search invariant-load
   bounded : task.r ≤ task.d
   bounded = ltb-false _ _ (sym s.before.before.before.before.before.above2.ensures ∙ s.before.before.before.before.if3.left)
 
-  tables : Tables (speedsIn board) at.before.before.before.before.before.columns_of.result
+  tables : Tables (speeds_in board) at.before.before.before.before.before.columns_of.result
   tables = at.before.before.before.before.before.columns_of.ensures
 
   inside : last ≤ 8
   inside = omega (arith, s.smaller.ensures, start.pre.procs.high)
 
 -- the test of column j is the paper's
-column : (a : tie.After-covered invariant-search decreases-search invariant-loads decreases-loads invariant-tasks decreases-tasks) → a.covered.result ≡ covered (speedsIn (board a.before.before.before.before.before)) (task a.before.before.before.before.before) a.before.before.before.before.search.j
+column : (a : tie.After-covered invariant-search decreases-search invariant-loads decreases-loads invariant-tasks decreases-tasks) → a.covered.result ≡ covered (speeds_in (board a.before.before.before.before.before)) (task a.before.before.before.before.before) a.before.before.before.before.search.j
 column a =
     let s = a.before.before.before.before.before in
-    a.covered.ensures ∙ column-is _ _ (task s) _ (tables s) (omega (arith, inside s, a.before.before.before.search-test.true))
+    a.covered.ensures ∙ column_is _ _ (task s) _ (tables s) (omega (arith, inside s, a.before.before.before.search-test.true))
 
 -- the load of the tasks above, at most 95 of them
 light : (l : tie.At-loads invariant-search decreases-search invariant-loads decreases-loads invariant-tasks decreases-tasks) → l.loads.k ≤ 95 → l.loads.load.0 ≤ 95009405000000
@@ -91,16 +91,16 @@ light l h =
     omega (
       arith,
       ap (λ (u : Units). u.0) l.loads.invariant.1,
-      load-most (board s) (start s).requires _ l.loads.k i.r.low i.r.high (omega (arith, l.loads.invariant.0, more s))
+      load_most (board s) (start s).requires _ l.loads.k i.r.low i.r.high (omega (arith, l.loads.invariant.0, more s))
           (λ a h. (at s).tasks.invariant.1.bounded a (omega (arith, l.loads.invariant.0))),
     )
 
 -- the demand is the paper's
-needed : (a : tie.After-demand invariant-search decreases-search invariant-loads decreases-loads invariant-tasks decreases-tasks) → a.demand.result ≡ units (demand (speedsIn (board a.before.before.before.before.before.before)) (aboveIn (board a.before.before.before.before.before.before) (at a.before.before.before.before.before.before).tasks.i) (task a.before.before.before.before.before.before))
+needed : (a : tie.After-demand invariant-search decreases-search invariant-loads decreases-loads invariant-tasks decreases-tasks) → a.demand.result ≡ units (demand (speeds_in (board a.before.before.before.before.before.before)) (above_in (board a.before.before.before.before.before.before) (at a.before.before.before.before.before.before).tasks.i) (task a.before.before.before.before.before.before))
 needed a =
     let l = a.before.before.before in
     let s = l.before.before.before in
-    a.demand.ensures _ ∙ demand-with (board s) (at s).tasks.i l.loads.k _ l.loads.invariant.1 (omega (arith, l.loads.invariant.0, a.before.before.loads-test.false))
+    a.demand.ensures _ ∙ demand_with (board s) (at s).tasks.i l.loads.k _ l.loads.invariant.1 (omega (arith, l.loads.invariant.0, a.before.before.loads-test.false))
 
 cast-tasks : tie.Need-overflow-cast-tasks invariant-search decreases-search invariant-loads decreases-loads invariant-tasks decreases-tasks
 cast-tasks c = search rules
@@ -117,8 +117,8 @@ no-slacks-requires c κs = search rules
 tasks-holds : tie.Need-tasks-init invariant-search decreases-search invariant-loads decreases-loads invariant-tasks decreases-tasks
 tasks-holds c =
     let start = c.before.before.before.before.before.before in
-    let places : length start.args.t1.speeds ≡ 8 = search (rules, length-mapped) in
-    (speeds-length _ _ (omega (arith, start.requires.procs.high)), rw c.no-slacks.ensures (walk-starts _))
+    let places : length start.args.t1.speeds ≡ 8 = search (rules, length_mapped) in
+    (speeds_length _ _ (omega (arith, start.requires.procs.high)), rw c.no-slacks.ensures (walk_starts _))
 
 cast-h : tie.Need-overflow-cast-h invariant-search decreases-search invariant-loads decreases-loads invariant-tasks decreases-tasks
 cast-h c = search rules
@@ -208,10 +208,10 @@ covered-requires c κs =
     let h : j ≤ 8 = omega (arith, inside s, c.before.before.search-test.true) in
     let i = (start s).requires.task (at s).tasks.i (more s) in
     record {
-      slow-sum = omega (arith, (tables s).sums j (omega arith), S-slow (board s) (start s).requires j);
-      slow-own = omega (arith, (tables s).own j (omega arith), own-slow (board s).procs (board s).speeds j (slow (board s) (start s).requires));
-      by-y = i.y.high;
-      by-z = i.z.high;
+      slow_sum = omega (arith, (tables s).sums j (omega arith), S-slow (board s) (start s).requires j);
+      slow_own = omega (arith, (tables s).own j (omega arith), own_slow (board s).procs (board s).speeds j (slow (board s) (start s).requires));
+      by_y = i.y.high;
+      by_z = i.z.high;
     }
 
 add-t67 : tie.Need-overflow-add-t67 invariant-search decreases-search invariant-loads decreases-loads invariant-tasks decreases-tasks
@@ -235,7 +235,7 @@ search-again c =
     (search rules, sym (column-covered _ (task s) _ l.j h (sym (column a) ∙ not-false _ c.if4.false)) ∙ l.invariant.1)
 
 loads-holds : tie.Need-loads-init invariant-search decreases-search invariant-loads decreases-loads invariant-tasks decreases-tasks
-unfolding load_of sum tasksFrom
+unfolding load_of sum tasks_from
 loads-holds c = (search rules, refl)
 
 mul-added : tie.Need-overflow-mul-added invariant-search decreases-search invariant-loads decreases-loads invariant-tasks decreases-tasks
@@ -268,7 +268,7 @@ added-requires c κs =
       above = record { opens = i.r.low; closes = i.r.high; starts = a.r.low; bounded = (at s).tasks.invariant.1.bounded k h; returns = a.t.high };
       loaded = light l (omega (arith, h, more s, (start s).requires.tasks.high));
       work = a.c.high;
-      slow = omega (arith, (tables s).own 0 (omega arith), fastest-slow (board s) (start s).requires);
+      slow = omega (arith, (tables s).own 0 (omega arith), fastest_slow (board s) (start s).requires);
     }
 
 add-k : tie.Need-overflow-add-k invariant-search decreases-search invariant-loads decreases-loads invariant-tasks decreases-tasks
@@ -281,7 +281,7 @@ loads-again : tie.Need-loads-preserved invariant-search decreases-search invaria
 loads-again c =
     let l = c.before.before.before.before.before in
     let s = l.before.before.before in
-    (search rules, c.added.ensures ∙ load-with (board s) (task s).r l.loads.k _ _ l.loads.invariant.1 ((tables s).own 0 (omega arith)))
+    (search rules, c.added.ensures ∙ load_with (board s) (task s).r l.loads.k _ _ l.loads.invariant.1 ((tables s).own 0 (omega arith)))
 
 mul-demand : tie.Need-overflow-mul-demand invariant-search decreases-search invariant-loads decreases-loads invariant-tasks decreases-tasks
 mul-demand c = search rules
@@ -297,8 +297,8 @@ demand-requires c κs =
     record {
       loaded = light l (omega (arith, l.loads.invariant.0, more s, (start s).requires.tasks.high));
       work = i.c.high;
-      by-y = i.y.high;
-      by-z = i.z.high;
+      by_y = i.y.high;
+      by_z = i.z.high;
     }
 
 over-requires : tie.Need-over-requires invariant-search decreases-search invariant-loads decreases-loads invariant-tasks decreases-tasks
@@ -340,7 +340,7 @@ tasks-again c =
       k.0,
       rw (c.less.ensures, n, o)
           (way_on _ k.0 k.1 (more s) (within s) (bounded s) _ s.smaller.ensures _ e.search-test.false
-          (sym e.before.search.invariant.1 ∙ columns-end _ (task s) _ _ e.search-test.false)
+          (sym e.before.search.invariant.1 ∙ columns_end _ (task s) _ _ e.search-test.false)
           (omega (arith, t, ap (λ (u : Units). u.0) n, ap (λ (u : Units). u.0) o))),
     )
 
@@ -352,7 +352,7 @@ returns-2 c =
     let a = c.before.before in
     let e = a.before.before.before.before in
     let k = e.before.tasks.invariant in
-    c.refusal.ensures ∙ out-deadline _ k.0 k.1 e.if1.false (ltb-true _ _ (sym a.above.ensures ∙ c.before.if2.true))
+    c.refusal.ensures ∙ out_deadline _ k.0 k.1 e.if1.false (ltb-true _ _ (sym a.above.ensures ∙ c.before.if2.true))
 
 returns-3 : tie.Need-returns-3 invariant-search decreases-search invariant-loads decreases-loads invariant-tasks decreases-tasks
 returns-3 c =
@@ -360,7 +360,7 @@ returns-3 c =
     let e = a.before.before.before.before.before.before in
     let k = e.before.tasks.invariant in
     c.refusal2.ensures
-    ∙ out-bound _ k.0 k.1 e.if1.false (ltb-false _ _ (sym a.before.before.above.ensures ∙ a.before.if2.false))
+    ∙ out_bound _ k.0 k.1 e.if1.false (ltb-false _ _ (sym a.before.before.above.ensures ∙ a.before.if2.false))
     (ltb-true _ _ (sym a.above2.ensures ∙ c.before.if3.true))
 
 returns-4 : tie.Need-returns-4 invariant-search decreases-search invariant-loads decreases-loads invariant-tasks decreases-tasks
@@ -371,8 +371,8 @@ returns-4 c =
     let l = a.before.before.before.before.search in
     let h : l.j ≤ last s = omega (arith, a.before.before.before.search-test.true) in
     c.refusal3.ensures
-    ∙ out-column _ k.0 k.1 (more s) (within s) (bounded s) _ s.smaller.ensures l.j h
-    (sym l.invariant.1 ∙ column-uncovered _ (task s) _ l.j h (sym (column a) ∙ not-true _ c.before.if4.true))
+    ∙ out_column _ k.0 k.1 (more s) (within s) (bounded s) _ s.smaller.ensures l.j h
+    (sym l.invariant.1 ∙ column_uncovered _ (task s) _ l.j h (sym (column a) ∙ not-true _ c.before.if4.true))
 
 returns-5 : tie.Need-returns-5 invariant-search decreases-search invariant-loads decreases-loads invariant-tasks decreases-tasks
 returns-5 c =
@@ -382,8 +382,8 @@ returns-5 c =
     let k = (at s).tasks.invariant in
     let t = ltb-false a.before.before.demand.result.0 a.before.over.result.0 (sym a.below.ensures ∙ not-true _ c.before.if5.true) in
     c.refusal4.ensures
-    ∙ out-fails _ k.0 k.1 (more s) (within s) (bounded s) _ s.smaller.ensures _ e.search-test.false
-    (sym e.before.search.invariant.1 ∙ columns-end _ (task s) _ _ e.search-test.false)
+    ∙ out_fails _ k.0 k.1 (more s) (within s) (bounded s) _ s.smaller.ensures _ e.search-test.false
+    (sym e.before.search.invariant.1 ∙ columns_end _ (task s) _ _ e.search-test.false)
     (omega (
       arith,
       t,

@@ -1,7 +1,7 @@
 -- A refusal is the paper's, with no slacks.
 -- Assumes nothing.
 use borrow.Author.Rules.{rules}
-use Rattle.certificate.specs.Verdicts.{packedVerdict}
+use Rattle.certificate.specs.Verdicts.{packed_verdict}
 use Rattle.certificate.proofs.refusal.Statement.{statement}
 use Rattle.certificate.proofs.refusal.Tie as tie
 
@@ -9,7 +9,7 @@ no-slacks-requires : tie.Need-no-slacks-requires
 no-slacks-requires c κs = search rules
 
 returns : tie.Need-returns
-unfolding packedVerdict
+unfolding packed_verdict
 returns c = rw c.no-slacks.ensures
 
 pub refusal-spec : {M : Type 1} → statement M

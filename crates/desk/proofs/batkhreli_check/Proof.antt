@@ -1,8 +1,8 @@
 -- The three numbers are those of the check's answer.
 -- Assumes nothing.
 use mathlib.Core.Path.{ap, ◌∙◌}
-use Rattle.paper.specs.Answers.{numbersOf}
-use Rattle.verdict.specs.Checks.{packedCheck}
+use Rattle.paper.specs.Answers.{numbers_of}
+use Rattle.verdict.specs.Checks.{packed_check}
 use Rattle.verdict.specs.declared.Checked.{Checked}
 use Rattle.desk.specs.Telling.{told}
 use borrow.Author.Rules.{rules}
@@ -23,9 +23,9 @@ numbers-requires c κs = search rules
 
 -- src/lib.rt:8:1
 returns : tie.Need-returns
-unfolding packedCheck
+unfolding packed_check
 returns c =
-    told _ c.numbers.result (c.numbers.ensures ∙ ap (λ (r : Checked). numbersOf r.answer) c.before.check.ensures)
+    told _ c.numbers.result (c.numbers.ensures ∙ ap (λ (r : Checked). numbers_of r.answer) c.before.check.ensures)
 
 pub batkhreli-check-spec : {M : Type 1} → statement M
 batkhreli-check-spec = tie.close (tie.spec check-requires numbers-requires returns)

@@ -1,7 +1,7 @@
 -- The numbers are those of the run's answer, and every lent place is as the run leaves it.
 -- Assumes nothing.
 use mathlib.Core.Path.{ap, ◌∙◌}
-use Rattle.paper.specs.Answers.{numbersOf}
+use Rattle.paper.specs.Answers.{numbers_of}
 use Rattle.desk.specs.Telling.{told}
 use borrow.Author.Rules.{rules}
 use Rattle.desk.proofs.batkhreli_run.Statement.{statement}
@@ -27,7 +27,7 @@ same_length c = search rules
 returns : tie.Need-returns
 returns c =
     let ran = c.before.before.before.run.ensures in
-    (told _ c.numbers.result (c.numbers.ensures ∙ ap numbersOf ran.answer), ran.places)
+    (told _ c.numbers.result (c.numbers.ensures ∙ ap numbers_of ran.answer), ran.places)
 
 pub batkhreli-run-spec : {M : Type 1} → statement M
 batkhreli-run-spec = tie.close (tie.spec run-requires numbers-requires same_length returns)

@@ -1,8 +1,8 @@
 -- The numbers are those of the check's answer, and the slacks are the paper's.
 -- Assumes nothing.
 use mathlib.Core.Path.{ap, ◌∙◌}
-use Rattle.paper.specs.Answers.{numbersOf}
-use Rattle.verdict.specs.Checks.{packedCheck}
+use Rattle.paper.specs.Answers.{numbers_of}
+use Rattle.verdict.specs.Checks.{packed_check}
 use Rattle.verdict.specs.Promise.{slack-numbers}
 use Rattle.verdict.specs.declared.Checked.{Checked}
 use Rattle.desk.specs.Telling.{told}
@@ -37,11 +37,11 @@ same_length c = search rules
 
 -- src/lib.rt:39:1
 returns : tie.Need-returns
-unfolding packedCheck
+unfolding packed_check
 returns c =
     let k = c.before.before.before.before.before.before.before in
     let checks = k.check.ensures in (
-      told _ c.numbers.result (c.numbers.ensures ∙ ap (λ (r : Checked). numbersOf r.answer) checks),
+      told _ c.numbers.result (c.numbers.ensures ∙ ap (λ (r : Checked). numbers_of r.answer) checks),
       rw (slack-numbers k.before.before.before.args.board.now _ checks).1 at c.before.before.before.put-slacks.ensures,
     )
 

@@ -3,7 +3,7 @@ use mathlib.Core.Path.{sym, subst}
 use lib.ListN.{set}
 use Rattle.quantity.specs.declared.Ticks.{Ticks}
 use Rattle.scheduler.specs.Tick.{Answered}
-use Rattle.scheduler.proofs.Answering.{answered-complete, answered-nowhere, answered-not-yet}
+use Rattle.scheduler.proofs.Answering.{answered_complete, answered_nowhere, answered_not_yet}
 use borrow.Author.Rules.{rules}
 use Rattle.scheduler.proofs.answer.Statement.{statement}
 use Rattle.scheduler.proofs.answer.Tie as tie
@@ -26,17 +26,17 @@ returns c =
     subst
     (λ (t : Ticks). Answered s.count s.job s.since.0 s.left.0 s.time.0 s.places.now (set s.places.now s.job t.0))
     (sym c.through.ensures)
-    (answered-complete s.count s.job s.since.0 s.left.0 s.time.0 s.places.now (search rules) (search rules))
+    (answered_complete s.count s.job s.since.0 s.left.0 s.time.0 s.places.now (search rules) (search rules))
 
 returns-2 : tie.Need-returns-2
 returns-2 c =
     let s = c.before.before.before.before.args in
-    answered-nowhere s.count s.job s.since.0 s.left.0 s.time.0 s.places.now (search rules) (search rules)
+    answered_nowhere s.count s.job s.since.0 s.left.0 s.time.0 s.places.now (search rules) (search rules)
 
 returns-3 : tie.Need-returns-3
 returns-3 c =
     let s = c.before.before.before.args in
-    answered-not-yet s.count s.job s.since.0 s.left.0 s.time.0 s.places.now (search rules)
+    answered_not_yet s.count s.job s.since.0 s.left.0 s.time.0 s.places.now (search rules)
 
 pub answer-spec : {M : Type 1} → statement M
 answer-spec =

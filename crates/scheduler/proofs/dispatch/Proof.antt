@@ -9,22 +9,22 @@ use mathlib.Core.Logic.{⊎_elim}
 use mathlib.Core.List.{List}
 use lib.ListN.{length, length-set}
 use Rattle.paper.specs.Scheduler.{table}
-use Rattle.paper.specs.laws.Seats.{seatsFrom, seats-begin, seats-empty, seats-taken, seats-full, seats-end}
+use Rattle.paper.specs.Laws.Seats.{seats_from, seats_begin, seats_empty, seats_taken, seats_full, seats_end}
 use Rattle.quantity.specs.declared.Units.{Units}
-use Rattle.scheduler.specs.State.{unitsLeft}
-use Rattle.scheduler.specs.Laws.{left_at, length-left}
+use Rattle.scheduler.specs.State.{units_left}
+use Rattle.scheduler.specs.Laws.{left_at, length_left}
 use Rattle.scheduler.proofs.dispatch.Statement.{statement}
 use Rattle.scheduler.proofs.dispatch.Tie as tie
 
 abbrev invariant-loop : tie.invariant-loop
 invariant-loop procs left most table₀ seated₀ i₀ seats seated i =
-    (i ≤ 96) × ((seatsFrom procs (unitsLeft left) seats seated i ≡ table procs (unitsLeft left)) × ((seated ≤ procs) × (length seats ≡ 8)))
+    (i ≤ 96) × ((seats_from procs (units_left left) seats seated i ≡ table procs (units_left left)) × ((seated ≤ procs) × (length seats ≡ 8)))
 
 abbrev decreases-loop : tie.decreases-loop
 decreases-loop procs left most table₀ seated₀ i₀ seats seated i = 96 - i
 
 loop-holds : tie.Need-loop-init invariant-loop decreases-loop
-loop-holds c = (search rules, (seats-begin c.args.procs (unitsLeft c.args.t1) (search rules), (search rules, refl)))
+loop-holds c = (search rules, (seats_begin c.args.procs (units_left c.args.t1) (search rules), (search rules, refl)))
 
 mul-if1 : tie.Need-overflow-mul-if1 invariant-loop decreases-loop
 mul-if1 c = search rules
@@ -60,15 +60,15 @@ loop-again c =
     let i : ℕ = c.before.before.loop.i in
     let n : ℕ = c.before.before.loop.seated in
     let t : List ℕ = c.before.before.loop.table in
-    let left : List ℕ = unitsLeft us in
-    let inv : seatsFrom m left t n i ≡ table m left = c.before.before.loop.invariant.1.0 in
+    let left : List ℕ = units_left us in
+    let inv : seats_from m left t n i ≡ table m left = c.before.before.loop.invariant.1.0 in
     let len : length t ≡ 8 = c.before.before.loop.invariant.1.1.1 in
-    let all : length left ≡ 96 = length-left us ∙ search rules in
+    let all : length left ≡ 96 = length_left us ∙ search rules in
     let h : i < length left = omega arith in (
       search rules,
       ⊎_elim
-          (λ w. let full = w.1.left in rw (w.2, w.3) (rw (add-one n, add-one i) (seats-taken m left t n i h (λ e. w.0.taken (sym (left_at us i) ∙ e)) (omega arith)) ∙ inv, (omega arith, length-set t n (i + 1) ∙ len)))
-          (λ w. rw (w.1, w.2) (rw (add-one i) (seats-empty m left t n i h (left_at us i ∙ w.0.left)) ∙ inv, (omega arith, len)))
+          (λ w. let full = w.1.left in rw (w.2, w.3) (rw (add-one n, add-one i) (seats_taken m left t n i h (λ e. w.0.taken (sym (left_at us i) ∙ e)) (omega arith)) ∙ inv, (omega arith, length-set t n (i + 1) ∙ len)))
+          (λ w. rw (w.1, w.2) (rw (add-one i) (seats_empty m left t n i h (left_at us i ∙ w.0.left)) ∙ inv, (omega arith, len)))
           c.if1.branch,
     )
 
@@ -76,14 +76,14 @@ returns : tie.Need-returns invariant-loop decreases-loop
 returns c =
     let us : List Units = c.before.before.args.t1 in
     let all : length us ≡ 96 = search rules in
-    let all_left : length (unitsLeft us) ≡ 96 = length-left us ∙ all in
-    sym (seats-end c.before.before.args.procs (unitsLeft us) c.before.loop.table c.before.loop.seated c.before.loop.i (omega arith)) ∙ c.before.loop.invariant.1.0
+    let all_left : length (units_left us) ≡ 96 = length_left us ∙ all in
+    sym (seats_end c.before.before.args.procs (units_left us) c.before.loop.table c.before.loop.seated c.before.loop.i (omega arith)) ∙ c.before.loop.invariant.1.0
 
 returns-2 : tie.Need-returns-2 invariant-loop decreases-loop
 returns-2 c =
     let us : List Units = c.before.before.before.before.args.t1 in
     let l = c.before.before.before.loop in
-    sym (seats-full c.before.before.before.before.args.procs (unitsLeft us) l.table l.seated l.i (omega arith)) ∙ l.invariant.1.0
+    sym (seats_full c.before.before.before.before.args.procs (units_left us) l.table l.seated l.i (omega arith)) ∙ l.invariant.1.0
 
 pub dispatch-spec : {M : Type 1} → statement M
 dispatch-spec =

@@ -4,7 +4,7 @@
 use Prim.Native.Nat.{◌-◌}
 use native.Mathlib.Omega.{arith}
 use borrow.Author.Rules.{rules}
-use Rattle.scheduler.specs.Laws.{length-mapped}
+use Rattle.scheduler.specs.Laws.{length_mapped}
 use Rattle.scheduler.proofs.Releasing.{Releasing, begins, one_more, ends, stops}
 use Rattle.scheduler.proofs.release_due.Statement.{statement}
 use Rattle.scheduler.proofs.release_due.Tie as tie
@@ -18,7 +18,7 @@ decreases-loop start at task units count time run₀ next₀ run next = count - 
 loop-holds : tie.Need-loop-init invariant-loop decreases-loop
 loop-holds c =
     begins c.args.at.now c.args.task.now c.args.units.now c.args.count c.args.time c.args.start c.requires.0 c.requires.1
-    (search (rules, length-mapped)) (search (rules, length-mapped)) (search rules)
+    (search (rules, length_mapped)) (search (rules, length_mapped)) (search rules)
 
 mul-if1 : tie.Need-overflow-mul-if1 invariant-loop decreases-loop
 mul-if1 c = search rules

@@ -51,7 +51,7 @@ use Rattle.quantity.specs.contracts.Ticks as K
 use Rattle.quantity.proofs.Ticks.TheLaws as K'
 use Rattle.scheduler.specs.Tick.{Standing, Ticked}
 use Rattle.scheduler.specs.declared.RunState.{RunState}
-use Rattle.scheduler.proofs.Passed.{Column, Others, Values, Speeds, speed-vals, seen, time-val, Rows, values_of, passed-of}
+use Rattle.scheduler.proofs.Passed.{Column, Others, Values, Speeds, speed_vals, seen, time_val, Rows, values_of, passed_of}
 use Rattle.scheduler.specs.contracts.RunState as T
 use Rattle.scheduler.proofs.RunState.TheLaws as T'
 use Rattle.scheduler.specs.contracts.tick as tick
@@ -134,16 +134,16 @@ module _ {M : Type 1} {𝓤 : Ura M} (𝓛 : Logic 𝓤) (at_mem : Memory → SP
   goes-tick standing =
       qed 𝓛 ((‵ (flft κa qa) ⊛ ‵ (flft κp qp) ⊛ ‵ ftrue) ∷ ‵ ((T.the_row).own_val h (mach ∷ [])) ∷ ‵ (owns (Rows κa κp) others values) ∷ []) ∵ says ! standing $ frame ! $ fjoin ! $ done !
 
-  module _ (is-procs : Is u32 procs (vint w32 procs ∷ [])) (is-speeds : Is Speeds speeds (speed-vals speeds)) (is_at : Is (ShrSlice (named 1) κa u32) at (seen at ∷ [])) (is-task : Is (ShrSlice (named 1) κa u32) task (seen task ∷ [])) (is-units : Is (ShrSlice (named 1) κa u32) units (seen units ∷ [])) (is-count : Is usize count (vint w64 count ∷ [])) (is-places : Is (MutSlice (named 2) κp u32) places (seen places ∷ [])) (is-time : Is K.the_row time (time-val time ∷ []))
+  module _ (is-procs : Is u32 procs (vint w32 procs ∷ [])) (is-speeds : Is Speeds speeds (speed_vals speeds)) (is_at : Is (ShrSlice (named 1) κa u32) at (seen at ∷ [])) (is-task : Is (ShrSlice (named 1) κa u32) task (seen task ∷ [])) (is-units : Is (ShrSlice (named 1) κa u32) units (seen units ∷ [])) (is-count : Is usize count (vint w64 count ∷ [])) (is-places : Is (MutSlice (named 2) κp u32) places (seen places ∷ [])) (is-time : Is K.the_row time (time_val time ∷ []))
       (Cs : Calls 𝓤 H) (Λ : Loops 𝓤 H) (fm : FmC 𝓤 H 𝓛.laws Cs) (known : Triple 𝓤 (Cs #scheduler·tick) (Tick 𝓛 at_mem run)) where
     walk : Standing procs at.now task.now units.now count time.0 h places.now
         → ent 𝓤 (on_entry 𝓛 f.signature (κ, (κa, (κp, tt))) (q, (qa, (qp, tt))) (lent, others) (vptr b o ∷ [], values))
-        (WpFn 𝓤 H Cs Λ code.function (vptr b o ∷ passed-of others) Post)
+        (WpFn 𝓤 H Cs Λ code.function (vptr b o ∷ passed_of others) Post)
     walk standing =
         qed 𝓛 ((‵ (flft κ q) ⊛ ‵ (flft κa qa) ⊛ ‵ (flft κp qp) ⊛ ‵ ftrue) ∷ ‵ (owns (MutRef (named 0) κ T.the_row ∷ Rows κa κp) (lent, others) (vptr b o ∷ [], values)) ∷ []) ∵
         split ! $ move ! (2 ∷ []) $ fsplit ! $ fsplit3 ! $ drop ! $ move ! (0 ∷ 1 ∷ 3 ∷ []) $
         -- [obs; the borrow; its token; what the others own; their tokens]
-        enter ! Cs Λ code.function (vptr b o ∷ passed-of others) _ $
+        enter ! Cs Λ code.function (vptr b o ∷ passed_of others) _ $
         alloc1 ! (λ l0. alloc1 ! (λ l1. alloc1 ! (λ l2. alloc1 ! (λ l3. alloc1 ! (λ l4. alloc1 ! (λ l5. alloc1 ! (λ l6. alloc1 ! (λ l7. alloc1 ! (λ l8. alloc1 ! (λ l9. alloc1 ! (λ l10. alloc1 ! (λ l11. alloc1 ! (λ l12. alloc1 ! (λ l13. alloc0 ! $ params1 ! $
         pass1 ! (init ! 24 refl (tt, tt)) $
         pass1 ! (init ! 22 refl ((uint_Lawful 𝓛 w32).typed procs _ is-procs).0) $
@@ -184,7 +184,7 @@ module _ {M : Type 1} {𝓤 : Ura M} (𝓛 : Logic 𝓤) (at_mem : Memory → SP
 
   step-walks : (Cs : Calls 𝓤 H) (Λ : Loops 𝓤 H) → FmC 𝓤 H 𝓛.laws Cs → Triple 𝓤 (Cs #scheduler·tick) (Tick 𝓛 at_mem run) → Walks 𝓛 f.ended stayed (WpFn 𝓤 H Cs Λ code.function) (f.clauses 𝓛 at_mem run)
   step-walks Cs Λ fm known = walked 𝓛 f.ended stayed (f.clauses 𝓛 at_mem run) (WpFn 𝓤 H Cs Λ code.function)
-      (λ κs. (shr_vals, (uint_vals w32, (speed-vals, (shr_slice_vals, (shr_slice_vals, (shr_slice_vals, (uint_vals w64, (shr_slice_vals, (LL.vals K.the_type K'.the_laws, tt))))))))))
+      (λ κs. (shr_vals, (uint_vals w32, (speed_vals, (shr_slice_vals, (shr_slice_vals, (shr_slice_vals, (uint_vals w64, (shr_slice_vals, (LL.vals K.the_type K'.the_laws, tt))))))))))
       (λ κs. (
         mut_Tells (named 0) κs.0 T.the_row,
         (

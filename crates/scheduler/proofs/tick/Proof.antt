@@ -7,9 +7,9 @@ use borrow.Author.Rules.{rules}
 use mathlib.Core.Logic.{⊎_elim}
 use lib.ListN.{length, get_or}
 use Rattle.quantity.specs.Quantity.{units, speed, less}
-use Rattle.scheduler.specs.Laws.{length-mapped}
-use Rattle.scheduler.proofs.Working.{Working, leftAfter, withTable, begins, idle, taken_as, ends, worked-by, seat-within}
-use Rattle.scheduler.proofs.Ticking.{goes_on, goes-no-further, ticked-stopped, ticked-going}
+use Rattle.scheduler.specs.Laws.{length_mapped}
+use Rattle.scheduler.proofs.Working.{Working, left_after, with_table, begins, idle, taken_as, ends, worked_by, seat_within}
+use Rattle.scheduler.proofs.Ticking.{goes_on, goes_no_further, ticked-stopped, ticked_going}
 use Rattle.scheduler.proofs.tick.Statement.{statement}
 use Rattle.scheduler.proofs.tick.Tie as tie
 
@@ -29,10 +29,10 @@ loop-holds : tie.Need-loop-init invariant-loop decreases-loop
 loop-holds c =
     let s = c.before.before.before.before.before.before.before.before.args in
     let released = c.before.before.before.release-due.result in
-    let all : length released.left ≡ 96 = search (rules, length-mapped) in
-    begins s.procs s.t3 c.dispatch.result s.count s.time.0 (withTable released c.dispatch.result) s.places.now
-    (seat-within s.procs released.left c.dispatch.result all c.dispatch.ensures)
-    all (search (rules, length-mapped)) (search rules)
+    let all : length released.left ≡ 96 = search (rules, length_mapped) in
+    begins s.procs s.t3 c.dispatch.result s.count s.time.0 (with_table released c.dispatch.result) s.places.now
+    (seat_within s.procs released.left c.dispatch.result all c.dispatch.ensures)
+    all (search (rules, length_mapped)) (search rules)
 
 mul-seat : tie.Need-overflow-mul-seat invariant-loop decreases-loop
 mul-seat c = search rules
@@ -103,11 +103,11 @@ loop-again c =
     let most : s.procs ≤ 8 = pre.platform in
     ⊎_elim
     (λ w.
-    let less_done : w.4.result ≡ leftAfter l.run (get_or seats l.i 0 - 1) (get_or s.t3 l.i (speed 0)) =
+    let less_done : w.4.result ≡ left_after l.run (get_or seats l.i 0 - 1) (get_or s.t3 l.i (speed 0)) =
     w.4.ensures ∙ ap (less (get_or l.run.left (get_or seats l.i 0 - 1) (units 0))) w.2.ensures in
     rw (w.11, w.12)
-    (taken_as s.procs s.t3 seats s.count s.time.0 (withTable released seats) s.places.now l.run l.places l.i l.invariant (omega arith) (omega arith) eight most _ w.4.result less_done w.0.taken w.8.ensures))
-    (λ w. rw (w.1, w.2) (idle s.procs s.t3 seats s.count s.time.0 (withTable released seats) s.places.now l.run l.places l.i l.invariant (omega arith) (omega arith) eight most w.0.left))
+    (taken_as s.procs s.t3 seats s.count s.time.0 (with_table released seats) s.places.now l.run l.places l.i l.invariant (omega arith) (omega arith) eight most _ w.4.result less_done w.0.taken w.8.ensures))
+    (λ w. rw (w.1, w.2) (idle s.procs s.t3 seats s.count s.time.0 (with_table released seats) s.places.now l.run l.places l.i l.invariant (omega arith) (omega arith) eight most w.0.left))
     c.if2.branch
 
 same_length : tie.Need-same-length invariant-loop decreases-loop
@@ -122,15 +122,15 @@ returns c =
     let seats = c.before.before.dispatch.result in
     let eight : length s.t3 ≡ 8 = c.before.before.before.before.before.before.before.before.before.before.well-formed.1.1.0.1.0.1 in
     let all : s.procs ≤ length s.t3 = omega (arith, pre.platform) in
-    ticked-going s.procs s.t3 s.at.now s.task.now s.units.now s.count s.time.0 s.start s.places.now made.result l.run l.places all made.ensures (goes_on made.result.overrun c.before.before.before.before.if1.true)
-    (worked-by s.procs s.t3 seats s.count s.time.0 made.result s.places.now l.run l.places c.before.before.dispatch.ensures
-    (ends s.procs s.t3 seats s.count s.time.0 (withTable made.result seats) s.places.now l.run l.places l.i l.invariant (omega arith) all))
+    ticked_going s.procs s.t3 s.at.now s.task.now s.units.now s.count s.time.0 s.start s.places.now made.result l.run l.places all made.ensures (goes_on made.result.overrun c.before.before.before.before.if1.true)
+    (worked_by s.procs s.t3 seats s.count s.time.0 made.result s.places.now l.run l.places c.before.before.dispatch.ensures
+    (ends s.procs s.t3 seats s.count s.time.0 (with_table made.result seats) s.places.now l.run l.places l.i l.invariant (omega arith) all))
 
 returns-2 : tie.Need-returns-2 invariant-loop decreases-loop
 returns-2 c =
     let s = c.before.before.before.before.before.before.args in
     let made = c.before.release-due in
-    ticked-stopped s.procs s.t3 s.at.now s.task.now s.units.now s.count s.time.0 s.start s.places.now made.result made.ensures (goes-no-further made.result.overrun c.if1.false)
+    ticked-stopped s.procs s.t3 s.at.now s.task.now s.units.now s.count s.time.0 s.start s.places.now made.result made.ensures (goes_no_further made.result.overrun c.if1.false)
 
 pub tick-spec : {M : Type 1} → statement M
 tick-spec =

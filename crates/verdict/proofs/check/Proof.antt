@@ -5,14 +5,14 @@ use mathlib.Core.Path.{sym, ◌∙◌}
 use Prim.Native.Nat.{ℕ}
 use types.Run.{miss}
 use borrow.Author.Rules.{rules}
-use Rattle.board.specs.Back.{Held, read-good, read-bad}
-use Rattle.verdict.specs.Steps.{out_line, out-speed, out-task, all_pass}
+use Rattle.board.specs.Back.{Held, read_good, read_bad}
+use Rattle.verdict.specs.Steps.{out_line, out_speed, out_task, all_pass}
 use Rattle.verdict.proofs.check.Statement.{statement}
 use Rattle.verdict.proofs.check.Tie as tie
 
 -- the board that was read
 held : (c : tie.After-b) → Held c.before.before.before.before.before.args.text.now c.before.before.before.read-board.result
-held c = read-good _ c.before.before.before.read-board.ensures c.before.enum_told.given.1
+held c = read_good _ c.before.before.before.read-board.ensures c.before.enum_told.given.1
 
 -- an answer of another case is not `Done`
 abbrev others : List ℕ
@@ -30,7 +30,7 @@ refusal-requires c κs = search rules
 returns : tie.Need-returns
 returns c =
     let k = c.before.match.keys2 in
-    c.refusal.ensures ∙ out_line (read-bad _ c.before.before.read-board.ensures (λ e. miss others 0 tt (rw e at k)))
+    c.refusal.ensures ∙ out_line (read_bad _ c.before.before.read-board.ensures (λ e. miss others 0 tt (rw e at k)))
 
 rising-requires : tie.Need-rising-requires
 rising-requires c κs = (held c).ranged.procs.high
@@ -39,7 +39,7 @@ refusal-requires-2 : tie.Need-refusal-requires-2
 refusal-requires-2 c κs = search rules
 
 returns-2 : tie.Need-returns-2
-returns-2 c = c.refusal2.ensures ∙ out-speed (held c.before.before.before) _ c.before.before.rising.ensures c.before.if1.true
+returns-2 c = c.refusal2.ensures ∙ out_speed (held c.before.before.before) _ c.before.before.rising.ensures c.before.if1.true
 
 judge-tasks-requires : tie.Need-judge-tasks-requires
 judge-tasks-requires c κs = (held c.before.before).ranged
@@ -54,7 +54,7 @@ returns-3 : tie.Need-returns-3
 returns-3 c =
     let k = c.before.match2.keys2 in
     let j = c.before.before in
-    c.refusal3.ensures ∙ out-task (held j.before.before.before) (sym j.before.if1.false ∙ j.before.before.rising.ensures) j.judge-tasks.ensures (λ e. miss others 0 tt (rw e at k))
+    c.refusal3.ensures ∙ out_task (held j.before.before.before) (sym j.before.if1.false ∙ j.before.before.rising.ensures) j.judge-tasks.ensures (λ e. miss others 0 tt (rw e at k))
 
 returns-4 : tie.Need-returns-4
 returns-4 c =

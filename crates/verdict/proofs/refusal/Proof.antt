@@ -2,12 +2,12 @@
 -- Assumes nothing.
 use mathlib.Core.Path.{refl}
 use Rattle.board.specs.Packed.{padded}
-use Rattle.verdict.specs.Checks.{packedCheck}
+use Rattle.verdict.specs.Checks.{packed_check}
 use Rattle.verdict.proofs.refusal.Statement.{statement}
 use Rattle.verdict.proofs.refusal.Tie as tie
 
 returns : tie.Need-returns
-unfolding packedCheck padded
+unfolding packed_check padded
 returns c = refl
 
 pub refusal-spec : {M : Type 1} → statement M

@@ -5,7 +5,7 @@ use Prim.Native.Nat.{◌≤◌}
 use native.Mathlib.Omega.{arith}
 use native.Mathlib.Nat.{mul-le-mul}
 use borrow.Author.Rules.{rules}
-use Rattle.paper.specs.laws.Loads.{rounded-most}
+use Rattle.paper.specs.Laws.Loads.{rounded_most}
 use Rattle.quantity.specs.declared.Units.{Units}
 use Rattle.quantity.specs.Quantity.{units}
 use Rattle.certificate.proofs.bound.added.Statement.{statement}
@@ -23,7 +23,7 @@ cast-times c = search rules
 times-requires : tie.Need-times-requires
 times-requires c κs =
     let a = c.before.before in
-    let most : c.jobs.result ≤ a.args.window.0 = rw c.jobs.ensures (rounded-most _ _ _ a.requires.above.opens (omega arith) a.requires.above.bounded) in
+    let most : c.jobs.result ≤ a.args.window.0 = rw c.jobs.ensures (rounded_most _ _ _ a.requires.above.opens (omega arith) a.requires.above.bounded) in
     let charged : c.before.charge.result.0 ≤ 1000099 = omega (arith, ap (λ (u : Units). u.0) c.before.charge.ensures) in
     let many : c.jobs.result ≤ 1000000 = omega arith in
     omega (arith, mul-le-mul charged many)
@@ -31,7 +31,7 @@ times-requires c κs =
 plus-requires : tie.Need-plus-requires
 plus-requires c κs =
     let a = c.before.before.before in
-    let most : c.before.jobs.result ≤ a.args.window.0 = rw c.before.jobs.ensures (rounded-most _ _ _ a.requires.above.opens (omega arith) a.requires.above.bounded) in
+    let most : c.before.jobs.result ≤ a.args.window.0 = rw c.before.jobs.ensures (rounded_most _ _ _ a.requires.above.opens (omega arith) a.requires.above.bounded) in
     let charged : c.before.before.charge.result.0 ≤ 1000099 = omega (arith, ap (λ (u : Units). u.0) c.before.before.charge.ensures) in
     let many : c.before.jobs.result ≤ 1000000 = omega arith in
     omega (arith, mul-le-mul charged many, ap (λ (u : Units). u.0) c.times.ensures)

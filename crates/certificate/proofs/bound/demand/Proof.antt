@@ -12,7 +12,7 @@ use Rattle.certificate.proofs.bound.demand.Statement.{statement}
 use Rattle.certificate.proofs.bound.demand.Tie as tie
 
 times-requires : tie.Need-times-requires
-times-requires c κs = omega (arith, mul-le-mul c.requires.loaded c.requires.by-y)
+times-requires c κs = omega (arith, mul-le-mul c.requires.loaded c.requires.by_y)
 
 less-requires : tie.Need-less-requires
 less-requires c κs = search rules
@@ -21,7 +21,7 @@ times-requires-2 : tie.Need-times-requires-2
 times-requires-2 c κs =
     let pre = c.before.before.requires in
     let less : c.less.result.0 ≤ 1000000 = omega (arith, ap (λ (u : Units). u.0) c.less.ensures, pre.work) in
-    omega (arith, mul-le-mul less pre.by-z)
+    omega (arith, mul-le-mul less pre.by_z)
 
 plus-requires : tie.Need-plus-requires
 plus-requires c κs =
@@ -31,8 +31,8 @@ plus-requires c κs =
       arith,
       ap (λ (u : Units). u.0) c.before.before.times.ensures,
       ap (λ (u : Units). u.0) c.times2.ensures,
-      mul-le-mul pre.loaded pre.by-y,
-      mul-le-mul less pre.by-z,
+      mul-le-mul pre.loaded pre.by_y,
+      mul-le-mul less pre.by_z,
     )
 
 returns : tie.Need-returns

@@ -2,7 +2,7 @@
 -- Assumes nothing.
 use mathlib.Core.Path.{refl}
 use borrow.Author.Rules.{rules}
-use Rattle.paper.specs.Basics.{roundedUp}
+use Rattle.paper.specs.Basics.{rounded_up}
 use Rattle.certificate.proofs.bound.jobs.Statement.{statement}
 use Rattle.certificate.proofs.bound.jobs.Tie as tie
 
@@ -22,7 +22,7 @@ div-result : tie.Need-nonzero-div-result
 div-result c = search rules
 
 returns : tie.Need-returns
-unfolding roundedUp
+unfolding rounded_up
 returns c = refl
 
 pub jobs-spec : {M : Type 1} → statement M

@@ -3,7 +3,7 @@
 use mathlib.Core.Path.{sym, ap}
 use borrow.Author.Rules.{rules}
 use Rattle.quantity.specs.Quantity.{speed}
-use Rattle.quantity.specs.Speeds.{speed-inside, speed-outside}
+use Rattle.quantity.specs.Speeds.{speed_inside, speed_outside}
 use Rattle.certificate.proofs.columns.own_speed.Statement.{statement}
 use Rattle.certificate.proofs.columns.own_speed.Tie as tie
 
@@ -14,10 +14,10 @@ array-copy-out-result : tie.Need-array-copy-out-result
 array-copy-out-result c = search rules
 
 returns : tie.Need-returns
-returns c = ap speed (sym (speed-inside _ _ _ c.before.if1.true))
+returns c = ap speed (sym (speed_inside _ _ _ c.before.if1.true))
 
 returns-2 : tie.Need-returns-2
-returns-2 c = ap speed (sym (speed-outside _ _ _ c.if1.false))
+returns-2 c = ap speed (sym (speed_outside _ _ _ c.if1.false))
 
 pub own-speed-spec : {M : Type 1} → statement M
 own-speed-spec = tie.close (tie.spec mul-result array-copy-out-result returns returns-2)

@@ -4,8 +4,8 @@ use Prim.Native.Nat.{◌-◌}
 use mathlib.Core.Path.{refl, ◌∙◌}
 use native.Mathlib.Omega.{arith}
 use borrow.Author.Rules.{rules}
-use Rattle.run.specs.Going.{Going, going-first, going_next, going-ended, ended-place, going-last}
-use Rattle.run.specs.Seating.{Sat, sat-first, sat-next, seats-ended, seats-last}
+use Rattle.run.specs.Going.{Going, going_first, going_next, going_ended, ended_place, going_last}
+use Rattle.run.specs.Seating.{Sat, sat_first, sat_next, seats_ended, seats_last}
 use Rattle.run.proofs.ticks.ticks.Statement.{statement}
 use Rattle.run.proofs.ticks.ticks.Tie as tie
 
@@ -21,7 +21,7 @@ fresh-requires c κs = search rules
 
 loop-holds : tie.Need-loop-init invariant-loop decreases-loop
 loop-holds c =
-    (going-first _ _ _ _ _ _ _ _ c.before.before.before.before.before.requires _ c.fresh.ensures, sat-first _ _ _ _ _ _ _ c.fresh.ensures)
+    (going_first _ _ _ _ _ _ _ _ c.before.before.before.before.before.requires _ c.fresh.ensures, sat_first _ _ _ _ _ _ _ c.fresh.ensures)
 
 moved-requires : tie.Need-moved-requires invariant-loop decreases-loop
 moved-requires c κs = c.before.before.before.loop.invariant.0.standing
@@ -29,13 +29,13 @@ moved-requires c κs = c.before.before.before.loop.invariant.0.standing
 cast-t15 : tie.Need-overflow-cast-t15 invariant-loop decreases-loop
 cast-t15 c =
     let i = c.before.before.before.before.before.before in
-    let h = ended-place _ _ _ _ _ _ _ _ _ _ _ i.before.before.loop.invariant.0 _ _ c.before.before.before.before.moved.ensures i.if1.true c.before.if2.true in
+    let h = ended_place _ _ _ _ _ _ _ _ _ _ _ i.before.before.loop.invariant.0 _ _ c.before.before.before.before.moved.ensures i.if1.true c.before.if2.true in
     omega (arith, i.before.before.loop.invariant.0.standing.listed.few)
 
 add-t16 : tie.Need-overflow-add-t16 invariant-loop decreases-loop
 add-t16 c =
     let i = c.before.before.before.before.before.before in
-    let h = ended-place _ _ _ _ _ _ _ _ _ _ _ i.before.before.loop.invariant.0 _ _ c.before.before.before.before.moved.ensures i.if1.true c.before.if2.true in
+    let h = ended_place _ _ _ _ _ _ _ _ _ _ _ i.before.before.loop.invariant.0 _ _ c.before.before.before.before.moved.ensures i.if1.true c.before.if2.true in
     omega (arith, i.before.before.loop.invariant.0.standing.listed.few)
 
 same_length : tie.Need-same-length invariant-loop decreases-loop
@@ -44,8 +44,8 @@ same_length c = c.before.before.before.before.moved.ensures.long ∙ c.before.be
 returns : tie.Need-returns invariant-loop decreases-loop
 returns c =
     let i = c.before.before.before.before.before.before in (
-      going-ended _ _ _ _ _ _ _ _ _ _ _ i.before.before.loop.invariant.0 _ _ c.before.before.before.before.moved.ensures i.if1.true c.before.if2.true _ refl,
-      seats-ended _ _ _ _ _ _ _ _ _,
+      going_ended _ _ _ _ _ _ _ _ _ _ _ i.before.before.loop.invariant.0 _ _ c.before.before.before.before.moved.ensures i.if1.true c.before.if2.true _ refl,
+      seats_ended _ _ _ _ _ _ _ _ _,
     )
 
 next-requires : tie.Need-next-requires invariant-loop decreases-loop
@@ -60,7 +60,7 @@ loop-again c =
     let g = i.before.before.loop.invariant.0 in
     let t = c.before.before.before.before.moved.ensures in
     rw c.next.ensures
-    (going_next _ _ _ _ _ _ _ _ _ _ _ g _ _ t i.if1.true c.before.if2.false, sat-next _ _ _ _ _ _ _ _ _ _ _ g _ _ t c.before.if2.false)
+    (going_next _ _ _ _ _ _ _ _ _ _ _ g _ _ t i.if1.true c.before.if2.false, sat_next _ _ _ _ _ _ _ _ _ _ _ g _ _ t c.before.if2.false)
 
 same-length-2 : tie.Need-same-length-2 invariant-loop decreases-loop
 same-length-2 c = c.before.before.before.loop.invariant.0.long
@@ -68,7 +68,7 @@ same-length-2 c = c.before.before.before.loop.invariant.0.long
 returns-2 : tie.Need-returns-2 invariant-loop decreases-loop
 returns-2 c =
     let i = c.before.before.before.loop.invariant in
-    (going-last _ _ _ _ _ _ _ _ _ _ _ i.0 c.before.if1.false, seats-last _ _ _ _ _ _ _ _ _ _ _ i.0 c.before.if1.false i.1)
+    (going_last _ _ _ _ _ _ _ _ _ _ _ i.0 c.before.if1.false, seats_last _ _ _ _ _ _ _ _ _ _ _ i.0 c.before.if1.false i.1)
 
 pub ticks-spec : {M : Type 1} → statement M
 ticks-spec =
