@@ -1,4 +1,6 @@
 // Checks the board on standard input and prints the verdict.
+#![tactic(auto)]
+
 ghost use Rattle.std.specs.Prelude.{◌+◌, ◌*◌, ◌≤◌, length, take};
 ghost use Rattle.paper.specs.Output.{printed_all, check_prints};
 ghost use Rattle.text.specs.Printing.{Placed};

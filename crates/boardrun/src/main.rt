@@ -1,4 +1,6 @@
 // Runs the board and the release list on standard input and prints the answer and the responses.
+#![tactic(auto)]
+
 ghost use Rattle.std.specs.Prelude.{◌+◌, ◌*◌, ◌≤◌, length, take};
 ghost use Rattle.paper.specs.Output.{printed_all, run_prints};
 ghost use Rattle.text.specs.Printing.{Placed};

@@ -7,7 +7,7 @@ ghost use Rattle.certificate.specs.Columns.{Slow, Tables, Columned};
 use quantity::Speed;
 
 // Column j has `sums[j]`, the sum of the j fastest speeds, and `own[j]`, the speed after them: 0 past the last processor.
-#[derive(Drop)]
+#[derive(Clone, Copy)]
 pub struct Columns {
     pub sums: [Speed; 9],
     pub own: [Speed; 9],

@@ -1,4 +1,6 @@
 // The certificate: the walk over tasks with the rules 4 to 7, for a board whose numbers are in their ranges.
+#![tactic(auto)]
+
 use board::Board;
 use bound::{added, demand};
 use columns::{columns_of, covered};
@@ -14,7 +16,7 @@ ghost use Rattle.board.specs.Packed.{Ranged, unpacked};
 ghost use Rattle.certificate.specs.Verdicts.{packed_slacks, packed_verdict};
 
 // What the tasks of a board come to: after `Done` each task's slack, and 0 in every other place.
-#[derive(Drop)]
+#[derive(Clone, Copy)]
 pub struct Judged {
     pub answer: Answer,
     pub slacks: [Units; 96],

@@ -1,10 +1,12 @@
 // What the programs share: reading standard input and writing standard output.
+#![tactic(auto)]
+
 ghost use Rattle.io.specs.Counts.{IsPrefixLen};
 ghost use Rattle.console.specs.Filled.{Filled};
 ghost use Rattle.std.specs.Prelude.{◌≤◌, length};
 
 // How many bytes were read, and whether reading broke off.
-#[derive(Drop)]
+#[derive(Clone, Copy)]
 pub struct Input {
     pub length: usize,
     pub failed: bool,

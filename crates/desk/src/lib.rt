@@ -1,4 +1,6 @@
 // The entries for the planning desk's C program (include/batkhreli.h): an answer as code, place and detail.
+#![tactic(auto)]
+
 ghost use Rattle.std.specs.Prelude.{◌≡◌, ◌≤◌, take};
 ghost use Rattle.paper.specs.Check.{check};
 ghost use Rattle.paper.specs.Run.{run};

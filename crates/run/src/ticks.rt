@@ -4,7 +4,7 @@ ghost use Rattle.run.specs.Seating.{LastSeats};
 
 use quantity::{Speed, Ticks};
 
-#[derive(Drop)]
+#[derive(Clone, Copy)]
 pub enum Outcome {
     // All ticks were made.
     Through,
@@ -13,7 +13,7 @@ pub enum Outcome {
 }
 
 // How far the ticks came, and who sat where in the last of them; nobody if a release ended them.
-#[derive(Drop)]
+#[derive(Clone, Copy)]
 pub struct Last {
     pub outcome: Outcome,
     pub table: [u32; 8],

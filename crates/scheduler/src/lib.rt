@@ -1,4 +1,6 @@
 // The scheduler, tick by tick: what became ready, who sits where, and what work leaves.
+#![tactic(auto)]
+
 ghost use Rattle.std.specs.Prelude.{◌≡◌, ◌+◌, ◌≤◌, ◌<◌, ◌^◌, length};
 ghost use Rattle.paper.specs.Scheduler.{table};
 ghost use Rattle.scheduler.specs.State.{fresh_run, units_left};
@@ -9,7 +11,7 @@ use quantity::{Speed, Ticks, Units};
 // For each of 96 task places the units left of its job, the tick of its release and the place of that release in the list,
 // from 0. Then who sat on which processor in the last tick, the release that comes next in the list, and whether that
 // release met an unfinished job.
-#[derive(Drop)]
+#[derive(Clone, Copy)]
 pub struct RunState {
     pub left: [Units; 96],
     pub since: [Ticks; 96],

@@ -1,11 +1,13 @@
 // The check: from the bytes of a board's text to the answer and the slacks.
+#![tactic(auto)]
+
 ghost use Rattle.verdict.specs.Checks.{Checks, Refuses};
 
 use paper::Answer;
 use quantity::Units;
 
 // After `Done` there are `count` slacks, one for each task; after a refusal none. Places past them hold 0.
-#[derive(Drop)]
+#[derive(Clone, Copy)]
 pub struct Checked {
     pub answer: Answer,
     pub count: u32,
