@@ -9,7 +9,7 @@ use Rattle.std.proofs.Math.Numerals.{add-one}
 use native.Mathlib.Omega.{arith}
 use borrow.Author.Count.{below_more}
 use Rattle.paper.specs.Board.{Task}
-use Rattle.paper.specs.Certificate.{S, own, fastest, covers, covered, charge_at, charge, count_in, jobs, load, demand, need, slack, broken, judge, accepted, refused, walk}
+use Rattle.paper.specs.Certificate.{S, fastest, covers, covered, charge_at, charge, count_in, jobs, load, demand, need, slack, broken, judge, accepted, refused, walk}
 use Rattle.paper.specs.Basics.{sum}
 use Rattle.paper.specs.Laws.Loads.{S-next, load_next, rounded_most}
 use Rattle.paper.specs.Laws.Judging.{uncovered_from, judge_deadline, judge-bound, judge-column, judge_fails, judge_passes, prefixed, prefixed_none, walk_on, walk_breaks}

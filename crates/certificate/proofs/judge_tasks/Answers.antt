@@ -1,6 +1,6 @@
 -- The walk over the tasks, one test after another: each way out of a task is the paper's, and so is the way on to the next, by the laws
 -- of the walk seen from its middle. The sums fit because speeds, numbers and loads are bounded.
-use Rattle.std.proofs.Common.{◌≡◌, refl, sym, ap, ◌∙◌, ℕ, ◌≤◌, ◌<◌, List, length, arith}
+use Rattle.std.proofs.Common.{◌≡◌, refl, sym, ap, ◌∙◌, ℕ, ◌≤◌, ◌<◌, List, arith}
 use Rattle.std.proofs.lemmas.Bool.{ltb-true, ltb-false}
 use Rattle.paper.specs.Basics.{sum}
 use Rattle.paper.specs.Laws.Judging.{column-covered, column_uncovered, columns_end}
@@ -35,13 +35,14 @@ tasks-init c =
 
 pub covered-requires : goal.covered-requires
 covered-requires c =
+    let b = c.args.b in
     let tables = c.columns_of-columns.ensures in
     let j = c.search.j in
     let h : j ≤ 8 = omega (arith, c.smaller-last.ensures) in
     let t = c.requires.task c.tasks.i c.if-tasks-i.false in
     record {
-      slow_sum = omega (arith, tables.sums j (omega arith), S-slow c.args.b c.requires j);
-      slow_own = omega (arith, tables.own j (omega arith), own_slow c.args.b.procs c.args.b.speeds j (slow c.args.b c.requires));
+      slow_sum = omega (arith, tables.sums j (omega arith), S-slow b c.requires j);
+      slow_own = omega (arith, tables.own j (omega arith), own_slow b.procs b.speeds j (slow b c.requires));
       by_y = t.y.high;
       by_z = t.z.high;
     }
@@ -50,11 +51,12 @@ pub search-preserved : goal.search-preserved
 search-preserved c =
     let t = task_at c.args.b c.tasks.i in
     let j = c.search.j in
+    let tables = c.columns_of-columns.ensures in
     let inside : j < 9 = omega (arith, c.smaller-last.ensures) in
     record {
       within = omega arith;
       covered =
-          sym (column-covered _ t _ j (omega arith) (sym (c.if-not-covered.ensures ∙ column_is _ _ t _ c.columns_of-columns.ensures inside)))
+          sym (column-covered _ t _ j (omega arith) (sym (c.if-not-covered.ensures ∙ column_is _ _ t _ tables inside)))
           ∙ c.search.invariant.covered;
     }
 
@@ -68,8 +70,9 @@ added-load-requires c =
     let k = c.loads.k in
     let a = c.requires.task k (omega arith) in
     let walked = c.tasks.invariant.walked in
+    let bounded = walked.bounded k c.loads-test.true in
     record {
-      above = record { opens = i.r.low; closes = i.r.high; starts = a.r.low; bounded = walked.bounded k c.loads-test.true; returns = a.t.high };
+      above = record { opens = i.r.low; closes = i.r.high; starts = a.r.low; bounded = bounded; returns = a.t.high };
       loaded = light c.args.b _ c.tasks.i k _ c.requires walked c.if-tasks-i.false c.loads.invariant.within c.loads.invariant.loaded;
       work = a.c.high;
       slow = omega (arith, c.columns_of-columns.ensures.own 0 (omega arith), fastest_slow c.args.b c.requires);
@@ -89,7 +92,7 @@ demand-needed-requires c =
     record {
       loaded =
           light c.args.b _ c.tasks.i c.loads.k _ c.requires c.tasks.invariant.walked c.if-tasks-i.false c.loads.invariant.within
-              c.loads.invariant.loaded;
+          c.loads.invariant.loaded;
       work = t.c.high;
       by_y = t.y.high;
       by_z = t.z.high;
@@ -134,12 +137,13 @@ returns-then-not-covered c =
     let b = c.args.b in
     let t = task_at b c.tasks.i in
     let j = c.search.j in
+    let tables = c.columns_of-columns.ensures in
     let inside : j < 9 = omega (arith, c.smaller-last.ensures) in
     c.refusal-then-not-covered.ensures
     ∙ out_column b c.tasks.invariant.speeds c.tasks.invariant.walked c.if-tasks-i.false (ltb-false _ _ (sym c.if-above.ensures))
     (ltb-false _ _ (sym c.if-above-2.ensures)) _ c.smaller-last.ensures j c.search-test.true
     (sym c.search.invariant.covered
-    ∙ column_uncovered _ t _ j c.search-test.true (sym (c.if-not-covered.ensures ∙ column_is _ _ t _ c.columns_of-columns.ensures inside)))
+    ∙ column_uncovered _ t _ j c.search-test.true (sym (c.if-not-covered.ensures ∙ column_is _ _ t _ tables inside)))
 
 pub returns-then-not-below : goal.returns-then-not-below
 returns-then-not-below c =

@@ -1,5 +1,5 @@
 -- The tables of columns, filled one column after another: no own speed is above 100, so that the running sum fits.
-use Rattle.std.proofs.Common.{◌≤◌, ap, arith}
+use Rattle.std.proofs.Common.{ap, arith}
 use Rattle.quantity.specs.declared.Speed.{Speed}
 use Rattle.certificate.specs.Filling.{filled_none, filled_more, own_slow}
 use Rattle.certificate.proofs.columns.columns_of.Goals as goal
@@ -26,5 +26,5 @@ loop-j-preserved c =
       within = omega arith;
       filled =
           filled_more _ _ _ _ c.loop-j.j _ c.loop-j.invariant.filled c.loop-j-test.true c.own_speed-s.ensures
-              (omega (arith, slow, ap (λ (s : Speed). s.0) c.own_speed-s.ensures));
+          (omega (arith, slow, ap (λ (s : Speed). s.0) c.own_speed-s.ensures));
     }
