@@ -10,7 +10,7 @@ use Rattle.quantity.specs.declared.Speed.{Speed}
 use Rattle.releases.specs.Packed.{releases_from}
 use Rattle.scheduler.specs.declared.RunState.{RunState}
 use Rattle.scheduler.specs.State.{units_left, state_of}
-use Rattle.scheduler.specs.Tick.{Cursor, told, stopped, Released, speeds_of, seated_after, Ticked}
+use Rattle.scheduler.specs.Tick.{Cursor, told, Released, speeds_of, seated_after, Ticked}
 use Rattle.scheduler.proofs.Releasing.{true_false}
 use Rattle.scheduler.proofs.Working.{Worked, length_speeds}
 

@@ -5,7 +5,7 @@ use Rattle.paper.specs.Laws.Reading.{In}
 use Rattle.paper.specs.Scheduler.{Ran, ran, overran, release, table, tick}
 use Rattle.quantity.specs.declared.Speed.{Speed}
 use Rattle.releases.specs.Packed.{releases_from}
-use Rattle.scheduler.specs.State.{units_left, state_of}
+use Rattle.scheduler.specs.State.{state_of}
 use Rattle.scheduler.specs.declared.RunState.{RunState}
 
 -- the first `count` places of three columns are the releases of a legal list, with every release's units named
