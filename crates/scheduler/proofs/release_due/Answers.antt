@@ -14,8 +14,8 @@ pub loop-next-preserved : goal.loop-next-preserved
 loop-next-preserved c =
     let s = c.args in
     let l = c.loop-next in
-    one_more s.at.now s.task.now s.units.now s.count s.time s.start c.requires.listed l.run l.next l.invariant (omega arith) c.if-at-next.false
-    c.if-run-place-ne0.false
+    one_more s.at.now s.task.now s.units.now s.count s.time s.start c.requires.listed l.run l.next l.invariant (omega arith)
+    c.if-at-next.false c.if-run-place-ne0.false
 
 pub returns-after-loop-next : goal.returns-after-loop-next
 returns-after-loop-next c =
@@ -33,5 +33,5 @@ pub returns-then-run-place-ne0 : goal.returns-then-run-place-ne0
 returns-then-run-place-ne0 c =
     let s = c.args in
     let l = c.loop-next in
-    stops s.at.now s.task.now s.units.now s.count s.time s.start c.requires.listed l.run l.next l.invariant (omega arith) c.if-at-next.false
-    c.if-run-place-ne0.true
+    stops s.at.now s.task.now s.units.now s.count s.time s.start c.requires.listed l.run l.next l.invariant (omega arith)
+    c.if-at-next.false c.if-run-place-ne0.true

@@ -30,12 +30,12 @@ loop-i-preserved c =
           let less_done : w.less-left.result ≡ left_after l.run (get_or seats l.i 0 - 1) (get_or s.speeds l.i (speed 0)) =
           w.less-left.ensures ∙ ap (less (get_or l.run.left (get_or seats l.i 0 - 1) (units 0))) w.over-done.ensures in
           rw (w.places-is, w.run-is)
-          (taken_as s.procs s.speeds seats s.count s.time.0 (with_table released seats) s.places.now l.run l.places l.i l.invariant (omega arith)
-          (omega arith) eight most _ w.less-left.result less_done w.if-seat-ne0.true w.answer.ensures)
+          (taken_as s.procs s.speeds seats s.count s.time.0 (with_table released seats) s.places.now l.run l.places l.i l.invariant
+          (omega arith) (omega arith) eight most _ w.less-left.result less_done w.if-seat-ne0.true w.answer.ensures)
       | else-seat-ne0 w ↦
           rw (w.places-is, w.run-is)
-          (idle s.procs s.speeds seats s.count s.time.0 (with_table released seats) s.places.now l.run l.places l.i l.invariant (omega arith)
-          (omega arith) eight most w.if-seat-ne0.false)
+          (idle s.procs s.speeds seats s.count s.time.0 (with_table released seats) s.places.now l.run l.places l.i l.invariant
+          (omega arith) (omega arith) eight most w.if-seat-ne0.false)
     ]
 
 pub returns-after-loop-i : goal.returns-after-loop-i
@@ -50,7 +50,8 @@ returns-after-loop-i c =
     ticked_going s.procs s.speeds s.at.now s.task.now s.units.now s.count s.time.0 s.start s.places.now made.result l.run l.places all
     made.ensures c.if-not-run.true
     (worked_by s.procs s.speeds seats s.count s.time.0 made.result s.places.now l.run l.places c.dispatch-seats.ensures
-    (ends s.procs s.speeds seats s.count s.time.0 (with_table made.result seats) s.places.now l.run l.places l.i l.invariant (omega arith) all))
+    (ends s.procs s.speeds seats s.count s.time.0 (with_table made.result seats) s.places.now l.run l.places l.i l.invariant
+    (omega arith) all))
 
 pub returns-else-not-run : goal.returns-else-not-run
 returns-else-not-run c =
