@@ -14,7 +14,6 @@ use Rattle.text.specs.Lines.{Refused}
 use Rattle.board.specs.Packed.{unpacked}
 use Rattle.board.specs.Places.{tasks_count}
 use Rattle.board.specs.Back.{Held}
-use Rattle.board.specs.declared.Board.{Board}
 use Rattle.board.specs.declared.BoardRead.{BoardRead}
 use Rattle.certificate.specs.Verdicts.{packed_verdict}
 use Rattle.certificate.specs.declared.Judged.{Judged}
