@@ -1,7 +1,6 @@
--- the headline
+-- what the headline speaks of
 pub mod Promises
--- its proof, from the ground up: one place over the ticks, what is carried into a window, the bound; then the scheduler's
--- own states, its responses up to a tick and after it, and the texts
+-- what its proof speaks of, from the ground up
 pub mod Place
 pub mod Carried
 pub mod Bound
@@ -9,6 +8,3 @@ pub mod Horizon
 pub mod Sound
 pub mod Settled
 pub mod Demand3
-pub mod FromText
--- and that what it asks for is met
-pub mod Witness

@@ -5,7 +5,7 @@ use Rattle.std.proofs.Common.{◌∙◌, arith, add-zero, add-suc}
 use mathlib.Core.List.{List, [], ◌∷◌}
 use Prim.Native.Nat.{ℕ, zero, suc, ◌+◌, ◌-◌, ◌≤◌}
 use Rattle.std.proofs.Math.ListN.{length}
-use Rattle.paper.specs.Laws.Tests.{on_eqb}
+use Rattle.paper.proofs.Laws.Tests.{on_eqb}
 use Rattle.paper.specs.Board.{Board}
 use Rattle.paper.specs.Releases.{Release, units_of}
 use Rattle.paper.specs.Scheduler.{State, Ran, ran, overran, started, release, dispatched, tick, ticked, after}

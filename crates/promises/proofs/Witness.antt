@@ -1,12 +1,12 @@
 -- What demand 3 asks for is met: board B with the list of P7, whose responses 7 and 11 stay within the bounds 7 and 12.
 -- Assumes nothing.
-use Rattle.std.specs.Prelude.{◌≡◌, refl, List, [], ◌∷◌, ℕ, replicate}
+use Rattle.std.specs.Prelude.{refl, List, [], ◌∷◌, ℕ, replicate}
 use Rattle.std.proofs.Common.{arith}
 use Rattle.paper.specs.Basics.{bytes, bytes_from, sum, rounded_up}
 use Rattle.paper.specs.Text.{whole, at_end, one, numbered, after_key, ranged, number_at, digits, times, and_then}
-use Rattle.paper.specs.Board.{Task, Board, read_board, read_task}
+use Rattle.paper.specs.Board.{Task, read_board, read_task}
 use Rattle.paper.specs.Certificate.{judged, unless_rising, rising, walk, followed_by, with_slack, judge, demand, load, jobs, charge, need, first_uncovered, covered, S}
-use Rattle.paper.specs.Releases.{Release, Releases, read_release, read_releases, rises, apart, fault_or, legal_from, legality}
+use Rattle.paper.specs.Releases.{Release, read_release, read_releases, rises, apart, fault_or, legal_from, legality}
 use Rattle.paper.specs.Check.{check, check_read, checked_as}
 use Rattle.paper.specs.Run.{Both, read_both}
 use Rattle.promises.specs.Promises.{Asked}

@@ -2,7 +2,7 @@
 use Rattle.std.specs.Prelude.{ℕ, zero, suc, ◌+◌, ◌-◌, ◌/◌, ◌%◌, ◌^◌, ◌≤◌, ◌<◌, ◌≡◌, List, [], ◌∷◌, ◌++◌, length, take, get_or}
 use Prim.Native.String.{String}
 use Rattle.std.proofs.Common.{sym, ap, ◌∙◌, append_assoc, append-nil, arith, div-lt_iff_lt-mul, pow-suc, length-append, lt-ltb, le-ltb}
-use Rattle.paper.specs.Laws.Tests.{on_ltb}
+use Rattle.paper.proofs.Laws.Tests.{on_ltb}
 use Rattle.paper.specs.Basics.{decimal_in}
 use Rattle.paper.specs.Output.{printed, printed_all}
 

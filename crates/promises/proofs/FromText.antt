@@ -2,19 +2,21 @@
 use Rattle.std.specs.Prelude.{◌≡◌, refl, List, ◌++◌, ℕ, ◌≤◌, ◌<◌, length, get_or, drop}
 use Rattle.std.proofs.Common.{sym, subst, arith}
 use Rattle.std.proofs.Math.ListN.{get_or-append, get_or-eq_default}
-use Rattle.paper.specs.Laws.Tests.{on_le}
-use Rattle.paper.specs.Text.{malformed, out_of_range, Read, good, bad, Reader, ◌>>=◌, and_then, give, whole}
+use Rattle.paper.proofs.Laws.Tests.{on_le}
+use Rattle.paper.specs.Text.{malformed, out_of_range, Read, good, bad, Reader, and_then, give, whole}
 use Rattle.paper.specs.Board.{Board, read_board}
 use Rattle.paper.specs.Releases.{read_releases, legal, legality}
 use Rattle.paper.specs.Check.{check}
 use Rattle.paper.specs.Run.{over, Both, read_both, run_read, run}
-use Rattle.paper.specs.Laws.Reading.{Reads, In, reads_give, reads_then, whole-good}
-use Rattle.paper.specs.Laws.Ranges.{reads_board, reads_releases, both_in}
+use Rattle.paper.specs.Laws.Reading.{Reads, In}
+use Rattle.paper.proofs.Laws.Reading.{reads_give, reads_then, whole-good}
+use Rattle.paper.proofs.Laws.Ranges.{reads_board, reads_releases, both_in}
 use Rattle.paper.specs.Accepted.{Accepted, ReadsAs}
-use Rattle.paper.specs.Laws.Acceptance.{done_accepted, none_rises}
-use Rattle.paper.specs.Laws.Finishing.{none_late, runs_done, overruns}
+use Rattle.paper.proofs.Laws.Acceptance.{done_accepted, none_rises}
+use Rattle.paper.proofs.Laws.Finishing.{none_late, runs_done, overruns}
 use Rattle.paper.specs.declared.Answer.TheVariants.{Done, Overrun}
-use Rattle.promises.specs.Demand3.{Finishes, demand_3}
+use Rattle.promises.specs.Demand3.{Finishes}
+use Rattle.promises.proofs.Demand3.{demand_3}
 
 -- the rest of a text after its board
 abbrev listed : Board → Reader Both
