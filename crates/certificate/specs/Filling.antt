@@ -2,8 +2,8 @@
 use Rattle.std.specs.Prelude.{◌≡◌, refl, List, ℕ, ◌+◌, ◌*◌, ◌≤◌, ◌<◌, length, get_or, set, replicate}
 use Rattle.std.proofs.Common.{ap, add-one, arith, length-set, get_or-set_same, get_or-set_other}
 use Rattle.paper.specs.Basics.{sum}
-use Rattle.paper.specs.Laws.Tests.{on_le}
-use Rattle.paper.specs.Laws.Loads.{S-next}
+use Rattle.paper.proofs.Laws.Tests.{on_le}
+use Rattle.paper.proofs.Laws.Loads.{S-next}
 use Rattle.paper.specs.Certificate.{S, own}
 use Rattle.quantity.specs.Quantity.{speed, speeds_of}
 use Rattle.quantity.specs.Speeds.{speed_inside, speed_outside}

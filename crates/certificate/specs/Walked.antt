@@ -11,8 +11,9 @@ use borrow.Author.Count.{below_more}
 use Rattle.paper.specs.Board.{Task}
 use Rattle.paper.specs.Certificate.{S, fastest, covers, covered, charge_at, charge, count_in, jobs, load, demand, need, slack, broken, judge, accepted, refused, walk}
 use Rattle.paper.specs.Basics.{sum}
-use Rattle.paper.specs.Laws.Loads.{S-next, load_next, rounded_most}
-use Rattle.paper.specs.Laws.Judging.{uncovered_from, judge_deadline, judge-bound, judge-column, judge_fails, judge_passes, prefixed, prefixed_none, walk_on, walk_breaks}
+use Rattle.paper.proofs.Laws.Loads.{S-next, load_next, rounded_most}
+use Rattle.paper.specs.Laws.Judging.{uncovered_from, prefixed}
+use Rattle.paper.proofs.Laws.Judging.{judge_deadline, judge-bound, judge-column, judge_fails, judge_passes, prefixed_none, walk_on, walk_breaks}
 use Rattle.paper.specs.declared.Answer.{Answer}
 use Rattle.paper.specs.declared.Answer.TheVariants.{Done, DeadlineAbovePeriod, BoundAboveDeadline, ColumnUncovered, BoundFails}
 use Rattle.quantity.specs.Quantity.{units, speed, speeds_of}

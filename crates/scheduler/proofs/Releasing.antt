@@ -9,10 +9,10 @@ use mathlib.Core.List.{List, ◌∷◌}
 use mathlib.Core.Bool.{Bool, true, false}
 use lib.ListN.{length, get_or, set, length-set}
 use Rattle.paper.specs.Board.{Board}
-use Rattle.paper.specs.Laws.Tests.{on_le, on_same}
+use Rattle.paper.proofs.Laws.Tests.{on_le, on_same}
 use Rattle.paper.specs.Releases.{Release, units_of}
 use Rattle.paper.specs.Scheduler.{State, ran, started, release}
-use Rattle.paper.specs.Laws.Cursor.{units-named, release_waits, release_starts, release_overruns}
+use Rattle.paper.proofs.Laws.Cursor.{units-named, release_waits, release_starts, release_overruns}
 use Rattle.quantity.specs.Quantity.{units as no-units}
 use Rattle.quantity.specs.declared.Ticks.{Ticks}
 use Rattle.quantity.specs.declared.Units.{Units}

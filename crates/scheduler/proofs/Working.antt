@@ -10,8 +10,8 @@ use lib.ListN.{length, get_or, set, take, drop, length-set, length-map, length-t
 use lib.Seq.{get_or-take}
 use Rattle.paper.specs.Scheduler.{answered, worked}
 use Rattle.paper.specs.Scheduler as paper
-use Rattle.paper.specs.Laws.Seats.{seat_known}
-use Rattle.paper.specs.Laws.Work.{work_idle, work_taken, work_end}
+use Rattle.paper.proofs.Laws.Seats.{seat_known}
+use Rattle.paper.proofs.Laws.Work.{work_idle, work_taken, work_end}
 use Rattle.quantity.specs.Quantity.{units, ticks, speed, over, less}
 use Rattle.quantity.specs.declared.Speed.{Speed}
 use Rattle.quantity.specs.declared.Units.{Units}

@@ -3,7 +3,7 @@
 use Rattle.std.specs.Prelude.{◌≡◌, refl, ℕ, suc, ◌+◌, ◌≤◌, List, [], ◌∷◌, ◌++◌, map, Bool, true, false, length, take, drop, replicate}
 use Rattle.std.proofs.Common.{sym, ap, ◌∙◌, arith, take-append-drop}
 use Rattle.paper.specs.Board.{Board}
-use Rattle.paper.specs.Laws.Tests.{on_le}
+use Rattle.paper.proofs.Laws.Tests.{on_le}
 use Rattle.paper.specs.Scheduler.{State, ran, overran, fresh}
 use Rattle.quantity.specs.Quantity.{units as in_units, ticks as in_ticks}
 use Rattle.quantity.specs.declared.Speed.{Speed}

@@ -8,9 +8,10 @@ use Rattle.paper.specs.Check as paper
 use Rattle.paper.specs.Text.{Read, good, bad, whole}
 use Rattle.paper.specs.Certificate.{Verdict, accepted, refused, judged}
 use Rattle.paper.specs.Board.{Board, task, read_board}
-use Rattle.paper.specs.Laws.Ranges.{board_in}
+use Rattle.paper.proofs.Laws.Ranges.{board_in}
 use Rattle.paper.specs.Accepted.{Accepted, ReadsAs, slack_of}
-use Rattle.paper.specs.Laws.Acceptance.{slacks_from, slacks_of, accepted_slacks, done_accepted, accepted_done}
+use Rattle.paper.specs.Laws.Acceptance.{slacks_from}
+use Rattle.paper.proofs.Laws.Acceptance.{slacks_of, accepted_slacks, done_accepted, accepted_done}
 use Rattle.paper.specs.declared.Answer.TheVariants.{Done}
 use Rattle.quantity.specs.Quantity.{units}
 use Rattle.quantity.specs.declared.Units.{Units}

@@ -7,7 +7,7 @@ use Rattle.std.proofs.Math.ListN.{length}
 use Rattle.paper.specs.Board as paper
 use Rattle.paper.specs.Certificate.{Verdict, accepted, refused, walk, rising, unless_rising, judged}
 use Rattle.paper.specs.Check.{checked_as, check_read, check}
-use Rattle.paper.specs.Laws.Acceptance.{walk_refuses, accepted_slacks}
+use Rattle.paper.proofs.Laws.Acceptance.{walk_refuses, accepted_slacks}
 use Rattle.paper.specs.declared.Answer.{Answer}
 use Rattle.paper.specs.declared.Answer.TheVariants.{Done, SpeedRises}
 use Rattle.text.specs.Lines.{Refused}

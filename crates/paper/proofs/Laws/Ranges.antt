@@ -2,7 +2,7 @@
 use Rattle.std.specs.Prelude.{ℕ, ◌≡◌, List}
 use Rattle.std.proofs.Common.{sym, subst}
 use Rattle.paper.specs.Text.{good, whole}
-use Rattle.paper.specs.Board.{Board, no_task, task, read_task, read_board}
+use Rattle.paper.specs.Board.{Board, no_task, read_task, read_board}
 use Rattle.paper.specs.Releases.{read_release, read_releases}
 use Rattle.paper.specs.Run.{Both, read_both}
 use Rattle.paper.specs.Laws.Reading.{Reads, In}

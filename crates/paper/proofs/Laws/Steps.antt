@@ -1,6 +1,6 @@
 -- Steps: what every step of a run keeps, the whole run keeps. Assumes nothing.
 use Rattle.std.specs.Prelude.{◌≡◌, List, drop}
-use Prim.Native.Nat.{ℕ, zero, suc, ◌+◌, ◌-◌, ◌≤◌, ◌<◌}
+use Prim.Native.Nat.{ℕ, zero, suc, ◌+◌, ◌≤◌, ◌<◌}
 use Rattle.std.proofs.Common.{add-zero, add-suc, drop-cons}
 use native.Mathlib.Omega.{arith}
 use Rattle.std.proofs.Math.ListN.{length}

@@ -1,6 +1,6 @@
 -- The slacks of an accepted board, task by task.
 use Rattle.std.specs.Prelude.{List, [], ◌∷◌, ◌++◌}
-use Prim.Native.Nat.{ℕ, ◌+◌}
+use Prim.Native.Nat.{ℕ}
 use Rattle.paper.specs.Board.{Task}
 use Rattle.paper.specs.Accepted.{slack_of}
 

@@ -1,6 +1,6 @@
 -- The rules one at a time: the first uncovered column, seen from the middle of the search, and a verdict, seen from the middle of the walk.
 use Rattle.std.specs.Prelude.{List, ◌++◌}
-use Prim.Native.Nat.{ℕ, suc, ◌+◌, ◌-◌}
+use Prim.Native.Nat.{ℕ, suc, ◌-◌}
 use Rattle.paper.specs.Board.{Task}
 use Rattle.paper.specs.Certificate.{first_uncovered, Verdict, accepted, refused}
 

@@ -1,6 +1,6 @@
 -- What a reader ensures of its value, and that it looks no further than it reads.
 use Rattle.std.specs.Prelude.{◌≡◌, List, ◌++◌, length, get_or}
-use Prim.Native.Nat.{ℕ, ◌+◌, ◌≤◌, ◌<◌}
+use Prim.Native.Nat.{ℕ, ◌≤◌, ◌<◌}
 use Rattle.paper.specs.Text.{good, Reader}
 
 -- what m gives is P, and bytes that come after what it reads change nothing

@@ -1,6 +1,6 @@
 -- The digits are placed as the definition gives them: those before the last by the call, then the last.
 use Rattle.std.proofs.Common.{◌+◌, ◌-◌, ◌/◌, ◌%◌, arith}
-use Rattle.paper.specs.Laws.Decimal.{decimal-one, decimal_more, decimal-length}
+use Rattle.paper.proofs.Laws.Decimal.{decimal-one, decimal_more, decimal-length}
 use Rattle.text.specs.Placing.{placed_none, placed_one, placed_length}
 use Rattle.text.proofs.print.+put_digits.Goals as goal
 

@@ -1,7 +1,7 @@
 -- A line is its key, its digits and LF, placed one after the other.
 use Rattle.std.proofs.Common.{◌≡◌, ◌<◌, refl, length, arith}
 use Rattle.paper.specs.Basics.{decimal}
-use Rattle.paper.specs.Laws.Decimal.{decimal-length}
+use Rattle.paper.proofs.Laws.Decimal.{decimal-length}
 use Rattle.text.specs.Placing.{placed_one, placed_then, placed_length}
 use Rattle.text.proofs.print.print_line.Goals as goal
 
