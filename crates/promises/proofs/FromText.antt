@@ -3,7 +3,7 @@ use Rattle.std.specs.Prelude.{◌≡◌, refl, List, ◌++◌, ℕ, ◌≤◌, �
 use Rattle.std.proofs.Common.{sym, subst, arith}
 use Rattle.std.proofs.Math.ListN.{get_or-append, get_or-eq_default}
 use Rattle.paper.proofs.Laws.Tests.{on_le}
-use Rattle.paper.specs.Text.{malformed, out_of_range, Read, good, bad, Reader, and_then, give, whole}
+use Rattle.paper.specs.Text.{malformed, out_of_range, Read, good, bad, Reader, ◌>>=◌, and_then, give, whole}
 use Rattle.paper.specs.Board.{Board, read_board}
 use Rattle.paper.specs.Releases.{read_releases, legal, legality}
 use Rattle.paper.specs.Check.{check}

@@ -2,7 +2,7 @@
 -- these is said by its contracts: `verdict::check` by `Checks`, `run::run` by `Meets`, equations with `check` and `run`.
 -- No axiom, hole or assumption stands behind any of it: the last line of this crate's check would count axioms, and counts
 -- none. A statement asks for no more than is written in it.
-use Rattle.std.specs.Prelude.{◌≡◌, refl, List, [], ◌++◌, map, ℕ, ◌+◌, ◌≤◌, length, get_or}
+use Rattle.std.specs.Prelude.{◌≡◌, refl, List, [], ◌++◌, map, ℕ, ◌≤◌, length, get_or}
 use Rattle.std.proofs.Common.{sym, ◌∙◌, arith}
 use Rattle.paper.specs.Text.{good, whole}
 use Rattle.paper.specs.Board.{Board}
@@ -33,6 +33,7 @@ use Rattle.promises.specs.Promises.{Asked, bound_of, Inside, Kept}
 -- the board and give both to the run, with at least as many places as there are releases. Then the run answers 0; and each
 -- release whose r ticks lie inside the run has, in its place and in what is printed, a response from 1 to r. (Board B and the
 -- list of P7 are such texts: Witness.)
+-- What is asked, what lies inside the run and what is kept: `Asked`, `Inside` and `Kept` in specs/Promises.antt.
 
 pub in_time : (board list places : List ℕ) (x : Both) → Asked board list places x → Kept x (run (board ++ list) places)
 in_time board list places x h =

@@ -1,10 +1,9 @@
 -- A list that keeps its gaps before a tick, and a run that is prompt up to it.
 use Rattle.std.specs.Prelude.{◌≡◌, List, ℕ, ◌+◌, ◌≤◌, ◌<◌, length}
-use Rattle.paper.specs.Board.{Board, task}
+use Rattle.paper.specs.Board.{Board}
 use Rattle.paper.specs.Releases.{Release, task_of, mark}
 use Rattle.paper.specs.Laws.Legal.{nth}
 use Rattle.paper.specs.Laws.Released.{released, remains, Goes}
-use Rattle.promises.proofs.Bound.{prompt}
 
 -- two releases of one task that come before tick H are at least t ticks apart
 pub record SpacedBefore (b : Board) (l : List Release) (H : ℕ) : Type 0 where

@@ -12,7 +12,6 @@ use Rattle.paper.specs.Laws.Released.{Goes}
 use Rattle.paper.specs.Laws.Served.{left_of, since_of, job_of, response_of}
 use Rattle.paper.specs.Laws.Steps.{place_of}
 use Rattle.paper.specs.Laws.Bridge.{Lefts}
-use Rattle.paper.proofs.Laws.Bridge.{lefts}
 use Rattle.promises.specs.Horizon.{bound}
 
 -- at tick a place k has been running release p since its tick, and is within its bound
