@@ -1,4 +1,4 @@
--- The rules one at a time: the first uncovered column, seen from the middle of the search, and a verdict, seen from the middle of the walk.
+-- The rules one at a time: the first uncovered column from the middle of the search on, and a verdict from the middle of the walk on.
 use Rattle.std.specs.Prelude.{List, ◌++◌}
 use Prim.Native.Nat.{ℕ, suc, ◌-◌}
 use Rattle.paper.specs.Board.{Task}
