@@ -3,7 +3,7 @@
 use Rattle.std.proofs.Common.{◌≡◌, refl, sym, ap, ◌∙◌, ℕ, ◌≤◌, ◌<◌, List, arith}
 use Rattle.std.proofs.lemmas.Bool.{ltb-true, ltb-false}
 use Rattle.paper.specs.Basics.{sum}
-use Rattle.paper.specs.Laws.Judging.{column-covered, column_uncovered, columns_end}
+use Rattle.paper.proofs.Laws.Judging.{column-covered, column_uncovered, columns_end}
 use Rattle.paper.specs.Certificate.{load}
 use Rattle.quantity.specs.Quantity.{units}
 use Rattle.quantity.specs.Speeds.{speeds_length}

@@ -3,7 +3,8 @@
 use Rattle.std.proofs.Common.{rules, arith, ◌≡◌, ◌+◌, ◌<◌, ◌∙◌, refl, sym, add-one, length, ℕ, List}
 use Rattle.std.proofs.Math.ListN.{length-set}
 use Rattle.paper.specs.Scheduler.{table}
-use Rattle.paper.specs.Laws.Seats.{seats_from, seats_begin, seats_empty, seats_taken, seats_end}
+use Rattle.paper.specs.Laws.Seats.{seats_from}
+use Rattle.paper.proofs.Laws.Seats.{seats_begin, seats_empty, seats_taken, seats_end}
 use Rattle.quantity.specs.declared.Units.{Units}
 use Rattle.scheduler.specs.State.{units_left}
 use Rattle.scheduler.specs.Laws.{left_at, length_left}
