@@ -1,5 +1,5 @@
 -- `run_board` refuses in the paper's order, one way out for each refusal, and else runs the list.
-use Rattle.run.specs.Order.{meets_rising, meets_late, meets_few, meets_illegal, runnable, meets_run}
+use Rattle.run.proofs.Order.{meets_rising, meets_late, meets_few, meets_illegal, runnable, meets_run}
 use Rattle.run.proofs.run_board.Goals as goal
 
 pub returns-then-faster-ne0 : goal.returns-then-faster-ne0
