@@ -2,7 +2,7 @@
 
 # check board A and print the verdict
 sample:
-	@rt check boardcheck >/dev/null && target/bin/boardcheck < boards/a.board
+	@host/build.sh boardcheck >/dev/null && target/bin/boardcheck < boards/a.board
 
 # the gate
 test:

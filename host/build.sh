@@ -1,12 +1,15 @@
 #!/bin/sh
 # Proves and builds the programs and the static library: target/bin/boardcheck, target/bin/boardrun and
-# target/staticlib/libdesk.a. Run from the repository's root.
+# target/staticlib/libdesk.a, or `host/build.sh NAME..` only those of these crates. Run from the repository's root.
 set -eu
 mkdir -p target/bin target/staticlib
-for program in boardcheck boardrun; do
-    (cd crates/$program && rt run <stdin >out.log 2>&1) || { cat crates/$program/out.log; exit 1; }
-    rm crates/$program/out.log
-    cp crates/$program/out/$program target/bin/
+[ $# -gt 0 ] || set -- boardcheck boardrun desk
+for name in "$@"; do
+    if [ "$name" = desk ]; then
+        (cd crates/desk && rt lib)
+        cp crates/desk/out/libdesk.a target/staticlib/
+    else
+        (cd "crates/$name" && rt run <stdin)
+        cp "crates/$name/out/$name" target/bin/
+    fi
 done
-(cd crates/desk && rt lib)
-cp crates/desk/out/libdesk.a target/staticlib/

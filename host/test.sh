@@ -1,6 +1,6 @@
 #!/bin/sh
 # Tests everything outside the proofs: the static library, the programs and the C side. Run from the repository's root,
-# after `rt ci`, which builds target/bin/boardcheck and target/bin/boardrun. The last line is 'host: N passed, M failed'.
+# over what `rt ci` proved. The last line is 'host: N passed, M failed'.
 set -eu
 # The order of file names, and with it the desk's output, is to be the same everywhere.
 LC_ALL=C
@@ -27,8 +27,8 @@ try() {
     fi
 }
 
-echo "host: the static library and the Rust side"
-rt staticlib desk
+echo "host: the programs, the static library and the Rust side"
+host/build.sh
 mkdir -p "$made"
 (cd host && cargo build --release --offline --locked --quiet)
 

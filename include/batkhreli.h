@@ -1,7 +1,7 @@
 /*
  * Batkhreli: the timing check and the run of a board, as proved, for a C or C++ program.
  *
- * Link target/staticlib/libdesk.a (x86-64 Linux), which `rt staticlib desk` writes; it needs nothing but the C library.
+ * Link target/staticlib/libdesk.a (x86-64 Linux), which `host/build.sh` writes; it needs nothing but the C library.
  *
  * Every function
  *   - gives the code as its result and writes the place and the detail, whatever the input (docs/REFUSALS.md has the

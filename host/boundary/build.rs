@@ -1,4 +1,4 @@
-//! Links the static library that `rt staticlib desk` writes.
+//! Links the static library that `host/build.sh` writes.
 
 use std::path::PathBuf;
 

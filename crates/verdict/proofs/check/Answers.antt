@@ -21,8 +21,8 @@ judge_tasks-judged-requires c = (read_good _ c.read_board-read.ensures c.in-Done
 pub returns-in_default-judging : goal.returns-in_default-judging
 returns-in_default-judging c =
     let h = read_good _ c.read_board-read.ensures c.in-Done.is in
-    let e = sym c.if-processor-ne0.false ∙ c.rising-processor.ensures in
-    c.refusal-in_default-judging.ensures ∙ out_task h e c.judge_tasks-judged.ensures c.in_default-judging.not-Done
+    let falls = sym c.if-processor-ne0.false ∙ c.rising-processor.ensures in
+    c.refusal-in_default-judging.ensures ∙ out_task h falls c.judge_tasks-judged.ensures c.in_default-judging.not-Done
 
 pub returns : goal.returns
 returns c =
