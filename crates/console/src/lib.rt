@@ -1,43 +1,52 @@
-// What the programs share: reading standard input and writing standard output.
+// What the programs share: reading their input.
 #![tactic(auto)]
 
 ghost use Rattle.io.specs.Counts.{IsPrefixLen};
 ghost use Rattle.console.specs.Filled.{Filled};
 ghost use Rattle.std.specs.Prelude.{◌≤◌, length};
 
-// How many bytes were read, and whether reading broke off.
+use std::io::{Error, Read};
+
+// The system's number of an error at a descriptor that is not open, EBADF.
+const NOT_OPEN: i32 = 9;
+
+// How many bytes were read, and why reading broke off, if it did.
 #[derive(Clone, Copy)]
 pub struct Input {
     pub length: usize,
-    pub failed: bool,
+    pub failed: Option<Error>,
 }
 
 // One read into the part of `buffer` from `done` on: how far it is filled now.
-fn read_more(buffer: &mut [u8], done: usize) -> Input
+fn read_more<R: Read>(from: &mut R, buffer: &mut [u8], done: usize) -> Input
     requires { done ≤ length buffer.old }
     ensures { Filled done result.length buffer.new }
 {
-    let got = libc::read(libc::STDIN_FILENO, &mut buffer[done..]);
-    let more = io::count(got, &buffer[done..]);
-    Input {
-        length: done + more,
-        failed: got < 0,
+    match from.read(&mut buffer[done..]) {
+        Ok(more) => Input {
+            length: done + more,
+            failed: None,
+        },
+        Err(error) => Input {
+            length: done,
+            failed: Some(error),
+        },
     }
 }
 
-// Fills `buffer` from standard input until it is full, the input ends or a read fails. A closed
-// standard input is an empty one.
-pub fn read_input(buffer: &mut [u8]) -> Input
+// Fills `buffer` until it is full, the input ends or a read fails. An input that is not open is an
+// empty one.
+pub fn read_input<R: Read>(from: &mut R, buffer: &mut [u8]) -> Input
     ensures { IsPrefixLen result.length buffer.new }
 {
     let mut done = 0;
     while done < buffer.len() {
-        let next = read_more(buffer, done);
-        if next.failed {
-            if os::errno() == libc::EBADF {
+        let next = read_more(from, buffer, done);
+        if let Some(error) = next.failed {
+            if error.raw_os_error() == Some(NOT_OPEN) {
                 return Input {
                     length: 0,
-                    failed: false,
+                    failed: None,
                 };
             }
             return next;
@@ -49,6 +58,6 @@ pub fn read_input(buffer: &mut [u8]) -> Input
     }
     Input {
         length: done,
-        failed: false,
+        failed: None,
     }
 }
