@@ -37,16 +37,16 @@ fn report(board: &[u8], out: &mut [u8]) -> usize
 }
 
 // One byte more than a board can have is read, so that a longer input is known to be longer.
-fn main() {
+fn main(rt: HostRuntime) {
     let mut bytes = [0u8; 65537];
-    let input = console::read_input(&mut bytes);
-    if input.failed {
-        os::fail(b"boardcheck: standard input");
+    let input = console::read_input(&mut rt.stdin(), &mut bytes);
+    if let Some(error) = input.failed {
+        let _ = eprintln!(rt; "boardcheck: standard input: {error}");
         return;
     }
     let mut out = [0u8; 4096];
     let end = report(&bytes[..input.length], &mut out);
-    if !io::write_all(libc::STDOUT_FILENO, &out[..end]) {
-        os::fail(b"boardcheck: standard output");
+    if let Err(error) = rt.write_all(&out[..end]) {
+        let _ = eprintln!(rt; "boardcheck: standard output: {error}");
     }
 }

@@ -34,16 +34,16 @@ fn report(both: &[u8], out: &mut [u8]) -> usize
 }
 
 // One byte more than a text can have is read, so that a longer input is known to be longer.
-fn main() {
+fn main(rt: HostRuntime) {
     let mut bytes = [0u8; 65537];
-    let input = console::read_input(&mut bytes);
-    if input.failed {
-        os::fail(b"boardrun: standard input");
+    let input = console::read_input(&mut rt.stdin(), &mut bytes);
+    if let Some(error) = input.failed {
+        let _ = eprintln!(rt; "boardrun: standard input: {error}");
         return;
     }
     let mut out = [0u8; 32768];
     let end = report(&bytes[..input.length], &mut out);
-    if !io::write_all(libc::STDOUT_FILENO, &out[..end]) {
-        os::fail(b"boardrun: standard output");
+    if let Err(error) = rt.write_all(&out[..end]) {
+        let _ = eprintln!(rt; "boardrun: standard output: {error}");
     }
 }
