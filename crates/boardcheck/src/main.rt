@@ -7,6 +7,7 @@ ghost use Rattle.text.specs.Printing.{Placed};
 ghost use Rattle.verdict.specs.Checks.{slack_numbers};
 ghost use Rattle.console.specs.Report.{Reported};
 
+use console::OrClosed;
 use quantity::Units;
 
 // A line for each of the first `count` slacks, from `at` on, and where they end.
@@ -39,7 +40,8 @@ fn report(board: &[u8], out: &mut [u8]) -> usize
 // One byte more than a board can have is read, so that a longer input is known to be longer.
 fn main(rt: HostRuntime) {
     let mut bytes = [0u8; 65537];
-    let input = console::read_input(&mut rt.stdin(), &mut bytes);
+    let mut stdin = OrClosed(rt.stdin());
+    let input = console::read_input(&mut stdin, &mut bytes);
     if let Some(error) = input.failed {
         let _ = eprintln!(rt; "boardcheck: standard input: {error}");
         return;

@@ -6,6 +6,8 @@ ghost use Rattle.paper.specs.Output.{printed_all, run_prints};
 ghost use Rattle.text.specs.Printing.{Placed};
 ghost use Rattle.console.specs.Report.{Reported};
 
+use console::OrClosed;
+
 // A line for each of the first `count` responses, from `at` on, and where they end.
 fn print_responses(out: &mut [u8], at: usize, places: &[u32], count: usize) -> usize
     requires { (count ≤ length places.now) × (at + 30 * count ≤ length out.old) }
@@ -36,7 +38,8 @@ fn report(both: &[u8], out: &mut [u8]) -> usize
 // One byte more than a text can have is read, so that a longer input is known to be longer.
 fn main(rt: HostRuntime) {
     let mut bytes = [0u8; 65537];
-    let input = console::read_input(&mut rt.stdin(), &mut bytes);
+    let mut stdin = OrClosed(rt.stdin());
+    let input = console::read_input(&mut stdin, &mut bytes);
     if let Some(error) = input.failed {
         let _ = eprintln!(rt; "boardrun: standard input: {error}");
         return;

@@ -2,13 +2,11 @@
 #![tactic(auto)]
 
 ghost use Rattle.io.specs.Counts.{IsPrefixLen};
+ghost use Rattle.std.specs.Io.KnownBytes.{Consumes, IsAtEnd};
 ghost use Rattle.console.specs.Filled.{Filled};
-ghost use Rattle.std.specs.Prelude.{◌≤◌, length};
+ghost use Rattle.std.specs.Prelude.{◌≡◌, ◌≤◌, ◌<◌, length, take, slice_range, IsNone};
 
-use std::io::{Error, Read};
-
-// The system's number of an error at a descriptor that is not open, EBADF.
-const NOT_OPEN: i32 = 9;
+use std::io::{Error, Read, Result};
 
 // How many bytes were read, and why reading broke off, if it did.
 #[derive(Clone, Copy)]
@@ -17,10 +15,15 @@ pub struct Input {
     pub failed: Option<Error>,
 }
 
-// One read into the part of `buffer` from `done` on: how far it is filled now.
+// One read into the part of `buffer` from `done` on: how far it is filled now, and with what.
 fn read_more<R: Read>(from: &mut R, buffer: &mut [u8], done: usize) -> Input
     requires { done ≤ length buffer.old }
-    ensures { Filled done result.length buffer.new }
+    ensures filled { Filled done result.length buffer.new }
+    ensures front { take done buffer.new ≡ take done buffer.old }
+    ensures bytes { Consumes (R.remaining from.old) (R.remaining from.new)
+        (slice_range buffer.new done result.length) }
+    ensures end { IsNone result.failed → result.length ≡ done → done < length buffer.old
+        → IsAtEnd (R.remaining from.new) }
 {
     match from.read(&mut buffer[done..]) {
         Ok(more) => Input {
@@ -34,21 +37,19 @@ fn read_more<R: Read>(from: &mut R, buffer: &mut [u8], done: usize) -> Input
     }
 }
 
-// Fills `buffer` until it is full, the input ends or a read fails. An input that is not open is an
-// empty one.
+// Fills `buffer` until it is full, the input ends or a read fails. What is counted is what was read,
+// and where no read failed and there is room left, it is all that there was.
 pub fn read_input<R: Read>(from: &mut R, buffer: &mut [u8]) -> Input
-    ensures { IsPrefixLen result.length buffer.new }
+    ensures counts { IsPrefixLen result.length buffer.new }
+    ensures bytes { Consumes (R.remaining from.old) (R.remaining from.new)
+        (take result.length buffer.new) }
+    ensures end { IsNone result.failed → result.length < length buffer.new
+        → IsAtEnd (R.remaining from.new) }
 {
     let mut done = 0;
     while done < buffer.len() {
         let next = read_more(from, buffer, done);
-        if let Some(error) = next.failed {
-            if error.raw_os_error() == Some(NOT_OPEN) {
-                return Input {
-                    length: 0,
-                    failed: None,
-                };
-            }
+        if next.failed.is_some() {
             return next;
         }
         if next.length == done {
@@ -59,5 +60,27 @@ pub fn read_input<R: Read>(from: &mut R, buffer: &mut [u8]) -> Input
     Input {
         length: done,
         failed: None,
+    }
+}
+
+// The system's number of the error at a descriptor that is not open, EBADF.
+const NOT_OPEN: i32 = 9;
+
+// A reader that ends where it is not open: a closed standard input is an empty one.
+#[derive(Drop)]
+pub struct OrClosed<R>(pub R);
+
+impl<R: Read> Read for OrClosed<R> {
+    fn read(&mut self, buf: &mut [u8]) -> Result<usize> {
+        match self.0.read(buf) {
+            Ok(n) => Ok(n),
+            Err(error) => {
+                if error.raw_os_error() == Some(NOT_OPEN) {
+                    Ok(0)
+                } else {
+                    Err(error)
+                }
+            }
+        }
     }
 }
