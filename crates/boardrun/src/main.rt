@@ -1,12 +1,15 @@
 // Runs the board and the release list on standard input and prints the answer and the responses.
 #![tactic(auto)]
 
-ghost use Rattle.std.specs.Prelude.{◌+◌, ◌*◌, ◌≤◌, length, take};
+ghost use Rattle.std.specs.Prelude.{◌≡◌, ◌+◌, ◌*◌, ◌≤◌, length, take, OnOk, IfErr, IfSome};
 ghost use Rattle.paper.specs.Output.{printed_all, run_prints};
 ghost use Rattle.text.specs.Printing.{Placed};
 ghost use Rattle.console.specs.Report.{Reported};
+ghost use Rattle.console.specs.Loss.{IsReading};
+ghost use Rattle.std.specs.Io.KnownBytes.{Appends};
 
-use console::OrClosed;
+use console::{Lost, OrClosed};
+use std::io::{Read, Write};
 
 // A line for each of the first `count` responses, from `at` on, and where they end.
 fn print_responses(out: &mut [u8], at: usize, places: &[u32], count: usize) -> usize
@@ -35,18 +38,30 @@ fn report(both: &[u8], out: &mut [u8]) -> usize
     print_responses(out, end, &places, finished.count as usize)
 }
 
-// One byte more than a text can have is read, so that a longer input is known to be longer.
-fn main(rt: HostRuntime) {
+// Prints what the run says of the board and the list that `from` has. One byte more than a text
+// can have is read, so that a longer input is known to be longer.
+fn answer<R: Read, W: Write>(from: &mut R, to: &mut W) -> Result<(), Lost>
+    ensures ok { OnOk result (IfSome (R.remaining from.old) (λ text.
+        Appends (W.contents to.old) (W.contents to.new) (run_prints text))) }
+    ensures err { IfErr result (λ lost. IsReading lost → to.new ≡ to.old) }
+{
     let mut bytes = [0u8; 65537];
-    let mut stdin = OrClosed(rt.stdin());
-    let input = console::read_input(&mut stdin, &mut bytes);
+    let input = console::read_input(from, &mut bytes);
     if let Some(error) = input.failed {
-        let _ = eprintln!(rt; "boardrun: standard input: {error}");
-        return;
+        return Err(Lost::Reading(error));
     }
     let mut out = [0u8; 32768];
     let end = report(&bytes[..input.length], &mut out);
-    if let Err(error) = rt.write_all(&out[..end]) {
-        let _ = eprintln!(rt; "boardrun: standard output: {error}");
+    match to.write_all(&out[..end]) {
+        Ok(()) => Ok(()),
+        Err(error) => Err(Lost::Writing(error)),
+    }
+}
+
+fn main(rt: HostRuntime) {
+    let mut from = OrClosed(rt.stdin());
+    let mut to = rt.stdout();
+    if let Err(lost) = answer(&mut from, &mut to) {
+        let _ = eprintln!(rt; "boardrun: {lost}");
     }
 }

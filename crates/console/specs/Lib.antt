@@ -1,3 +1,5 @@
 pub mod Filled
 pub mod Report
 pub mod Counted
+pub mod Enough
+pub mod Loss

@@ -6,6 +6,7 @@ ghost use Rattle.std.specs.Io.KnownBytes.{Consumes, IsAtEnd};
 ghost use Rattle.console.specs.Filled.{Filled};
 ghost use Rattle.std.specs.Prelude.{◌≡◌, ◌≤◌, ◌<◌, length, take, slice_range, IsNone};
 
+use std::fmt;
 use std::io::{Error, Read, Result};
 
 // How many bytes were read, and why reading broke off, if it did.
@@ -81,6 +82,22 @@ impl<R: Read> Read for OrClosed<R> {
                     Err(error)
                 }
             }
+        }
+    }
+}
+
+// What broke off, and why.
+#[derive(Clone, Copy, Debug)]
+pub enum Lost {
+    Reading(Error),
+    Writing(Error),
+}
+
+impl fmt::Display for Lost {
+    fn fmt<W: fmt::Write>(&self, f: &mut fmt::Formatter<W>) -> fmt::Result {
+        match self {
+            Lost::Reading(error) => write!(f, "standard input: {error}"),
+            Lost::Writing(error) => write!(f, "standard output: {error}"),
         }
     }
 }
