@@ -1,5 +1,4 @@
 pub mod Filled
 pub mod Report
 pub mod Counted
-pub mod Enough
 pub mod Loss

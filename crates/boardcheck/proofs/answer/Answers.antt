@@ -2,7 +2,7 @@
 use Rattle.std.proofs.Common.{rules, arith, subst}
 use Rattle.std.specs.Io.KnownBytes.{Appends}
 use Rattle.paper.specs.Output.{check_prints}
-use Rattle.console.specs.Enough.{check_long, enough, reported_bytes}
+use Rattle.console.proofs.Enough.{check_long, enough, reported_bytes}
 use Rattle.boardcheck.proofs.answer.Goals as goal
 
 pub returns-in-Ok-clause-ok : goal.returns-in-Ok-clause-ok

@@ -2,7 +2,7 @@
 use Rattle.std.proofs.Common.{rules, arith, subst}
 use Rattle.std.specs.Io.KnownBytes.{Appends}
 use Rattle.paper.specs.Output.{run_prints}
-use Rattle.console.specs.Enough.{run_long, enough, reported_bytes}
+use Rattle.console.proofs.Enough.{run_long, enough, reported_bytes}
 use Rattle.boardrun.proofs.answer.Goals as goal
 
 pub returns-in-Ok-clause-ok : goal.returns-in-Ok-clause-ok

@@ -4,7 +4,7 @@ use Rattle.std.proofs.Common.{sym, ap, ◌∙◌, arith, append-nil, length-appe
 use borrow.Author.Tests.{lt-leb}
 use Rattle.std.specs.Io.KnownBytes.{Consumes, Appends, IsAtEnd}
 use Rattle.paper.specs.Text.{Reader, whole}
-use Rattle.paper.specs.Laws.Tests.{on_le}
+use Rattle.paper.proofs.Laws.Tests.{on_le}
 use Rattle.paper.specs.Check.{check}
 use Rattle.paper.specs.Run.{run}
 use Rattle.paper.specs.Output.{check_prints, run_prints}

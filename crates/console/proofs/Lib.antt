@@ -1,0 +1,2 @@
+-- laws of what is read and printed
+pub mod Enough
