@@ -20,6 +20,6 @@ soak:
 timeline:
 	@host/timeline.sh
 
-# the table of docs/PROOFS.md, with the seconds of the last gate if its output is given as LOG=
+# the table of docs/PROOFS.md
 economy:
-	@tools/economy.sh $(LOG)
+	@tools/economy.sh
