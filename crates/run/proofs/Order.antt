@@ -42,21 +42,26 @@ module _ (b : Board) (l : code.List) (lent : List ℕ) where
       -- 10
       pub meets_few : length lent < l.count → Meets (promised b l lent) (refusing (FewPlaces l.count)) lent
       meets_few h =
-          subst (λ (f : whole.Finished). Meets f (refusing (FewPlaces l.count)) lent) (sym (past_late b l lent p falls none k timely nobody ∙ few)) (meets_refusal (FewPlaces l.count) lent)
+          subst (λ (f : whole.Finished). Meets f (refusing (FewPlaces l.count)) lent)
+          (sym (past_late b l lent p falls none k timely nobody ∙ few))
+          (meets_refusal (FewPlaces l.count) lent)
         where
           few : after_late b l lent ≡ refusal (FewPlaces l.count) lent
           few = rw (releases_count l, lt-ltb _ _ h)
 
       module _ (enough : l.count ≤ length lent) where
         -- 8
-        pub meets_illegal : (r : Judgement) → r ≡ judged (legality (unpacked b) (unpacked_list l).list) → (release : ℕ) (fault : Fault) → r ≡ Illegal release fault
+        pub meets_illegal : (r : Judgement) → r ≡ judged (legality (unpacked b) (unpacked_list l).list)
+            → (release : ℕ) (fault : Fault) → r ≡ Illegal release fault
             → Meets (promised b l lent) (refusing (IllegalRelease release fault)) lent
         unfolding unless_illegal
         meets_illegal r e release fault f =
-            subst (λ (f : whole.Finished). Meets f (refusing (IllegalRelease release fault)) lent) (sym (past_few b l lent p falls none k timely nobody enough))
+            subst (λ (f : whole.Finished). Meets f (refusing (IllegalRelease release fault)) lent)
+            (sym (past_few b l lent p falls none k timely nobody enough))
             (go (legality (unpacked b) (unpacked_list l).list) (sym f ∙ e))
           where
-            go : (x : Legality) → Illegal release fault ≡ judged x → Meets (unless_illegal (unpacked b) (unpacked_list l) lent x) (refusing (IllegalRelease release fault)) lent
+            go : (x : Legality) → Illegal release fault ≡ judged x
+                → Meets (unless_illegal (unpacked b) (unpacked_list l) lent x) (refusing (IllegalRelease release fault)) lent
             go legal i = let z : ◌≡◌ {A = ℕ} 0 1 = cc in absurd (omega arith)
             go (illegal q other) i = record { answer = cc; count = refl; places = refl }
 
@@ -65,7 +70,9 @@ module _ (b : Board) (l : code.List) (lent : List ℕ) where
 
         -- the ticks
         pub meets_run : (r : Judgement) → r ≡ judged (legality (unpacked b) (unpacked_list l).list) → r ≡ Legal → (x : Finished) (places : List ℕ)
-            → Meets (finished lent (length (unpacked_list l).list) (after (unpacked b) (unpacked_list l).list l.ticks.0)) x places → Meets (promised b l lent) x places
+            → Meets (finished lent (length (unpacked_list l).list) (after (unpacked b) (unpacked_list l).list l.ticks.0)) x places
+            → Meets (promised b l lent) x places
         unfolding unless_illegal unpacked_list
         meets_run r e f x places m =
-            subst (λ (f : whole.Finished). Meets f x places) (sym (past_few b l lent p falls none k timely nobody enough ∙ ap (unless_illegal (unpacked b) (unpacked_list l) lent) (is_legal b l r e f))) m
+            let few = past_few b l lent p falls none k timely nobody enough in
+            subst (λ (f : whole.Finished). Meets f x places) (sym (few ∙ ap (unless_illegal (unpacked b) (unpacked_list l) lent) (is_legal b l r e f))) m

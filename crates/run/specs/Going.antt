@@ -4,7 +4,7 @@ use Rattle.std.proofs.Common.{sym, ◌∙◌, arith, add-one}
 use Rattle.std.proofs.Math.Path.{ap, subst}
 use Rattle.paper.specs.Board.{Board}
 use Rattle.paper.specs.Releases.{Release}
-use Rattle.paper.specs.Scheduler.{State, Ran, ran, overran, fresh, tick, after}
+use Rattle.paper.specs.Scheduler.{State, Ran, ran, overran, fresh, after}
 use Rattle.paper.proofs.Laws.Onward.{after-tick, after_overrun, tick_place}
 use Rattle.quantity.specs.declared.Speed.{Speed}
 use Rattle.releases.specs.Packed.{releases_from}

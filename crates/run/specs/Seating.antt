@@ -4,7 +4,7 @@ use Rattle.std.proofs.Math.Path.{refl, sym, ap}
 use Rattle.std.proofs.Common.{◌∙◌, arith, add-one}
 use Rattle.paper.specs.Board.{Board}
 use Rattle.paper.specs.Releases.{Release}
-use Rattle.paper.specs.Scheduler.{Ran, ran, overran, release, dispatched, tick, table, released, seated, seats, after}
+use Rattle.paper.specs.Scheduler.{Ran, ran, overran, release, dispatched, tick, table, released, seated, seats}
 use Rattle.paper.specs.declared.Answer.TheVariants.{Done}
 use Rattle.quantity.specs.declared.Speed.{Speed}
 use Rattle.scheduler.specs.State.{fresh_run, state_of}

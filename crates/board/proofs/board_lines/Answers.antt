@@ -16,5 +16,5 @@ returns c =
           (then s _ c.next_line-n.ensures.read
           (then s _ c.read_tasks-k.ensures.read
           (record { same = refl })))));
-      lines = omega (arith, c.read_tasks-k.ensures.lines, c.next_line-n.ensures.lines, c.next_line-n.ensures.most, c.read_speeds-a.ensures.lines, c.next_line-m.ensures.lines, c.next_line-m.ensures.most);
+      lines = omega arith;
     }

@@ -1,5 +1,5 @@
 -- Rule 4 is the paper's: a task with d above t is where the rule says so, and else it goes on one task later.
-use Rattle.std.proofs.Common.{◌≡◌, ◌≤◌, ◌<◌, ◌+◌, ◌-◌, sym, ap, ◌∙◌, add-one, arith, ltb-true, ltb-false}
+use Rattle.std.proofs.Common.{◌≡◌, ◌≤◌, ◌<◌, ◌+◌, ◌-◌, sym, ◌∙◌, add-one, arith, ltb-true, ltb-false}
 use Rattle.board.specs.Packed.{unpacked, task_at}
 use Rattle.board.specs.Rules.{late-here, late-later, late_nowhere}
 use Rattle.board.proofs.late.Goals as goal

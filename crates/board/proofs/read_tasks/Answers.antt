@@ -15,7 +15,7 @@ loop-i-preserved c =
     let a = c.args in
     let s = a.s.now in
     fill_step read_task put s 7 a.n a.p no_tasks l.invariant c.loop-i-test.true
-    (omega (arith, c.next_line-vc.ensures.lines, c.next_line-vd.ensures.lines, c.next_line-vt.ensures.lines, c.next_line-vr.ensures.lines, c.next_line-vy.ensures.lines, c.next_line-vz.ensures.lines, c.next_line-vq.ensures.lines))
+    (omega arith)
     (then s (λ x. give (put (columns_of l.c l.d l.t l.r l.y l.z l.q) l.i x))
     (then s _ c.next_line-vc.ensures.read
     (then s _ c.next_line-vd.ensures.read

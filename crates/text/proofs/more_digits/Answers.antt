@@ -1,6 +1,6 @@
 -- The rest of a number is the paper's: each way out gives what the digits left give, and a digit more is one law of them.
-use Rattle.std.proofs.Common.{◌≡◌, drop, ◌-◌, sym, ap, ◌∙◌, drop-drop, arith}
-use Rattle.paper.specs.Text.{digits, number}
+use Rattle.std.proofs.Common.{drop, ◌-◌, sym, ap, ◌∙◌, drop-drop, arith}
+use Rattle.paper.specs.Text.{number}
 use Rattle.text.proofs.Laws.{digits_end, digits_low, digits_high, digits_none, digits_more, room_now, room_more}
 use Rattle.text.proofs.more_digits.Goals as goal
 

@@ -1,5 +1,5 @@
 -- One line more is read from a good position, and none from a bad one; the number's bound is the paper's law of a line.
-use Rattle.std.proofs.Common.{drop, sym, ap, ◌∙◌, eq-eqb, ne_eqb, arith}
+use Rattle.std.proofs.Common.{drop, sym, eq-eqb, ne_eqb, arith}
 use Rattle.paper.proofs.Laws.Reading.{reads_one}
 use Rattle.text.specs.Lines.{line_of, from}
 use Rattle.text.proofs.next_line.Goals as goal

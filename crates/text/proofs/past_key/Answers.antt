@@ -1,5 +1,5 @@
 -- The key is compared as the paper does it: one byte more by `past_more`, another byte by `past_not`, the end by `past_all`.
-use Rattle.std.proofs.Common.{◌≡◌, drop, ◌+◌, sym, ap, ◌∙◌, drop-drop, arith}
+use Rattle.std.proofs.Common.{drop, ◌+◌, sym, ap, ◌∙◌, drop-drop, arith}
 use Rattle.paper.specs.Text.{after_key}
 use Rattle.text.proofs.Laws.{past_more, past_not, past_all}
 use Rattle.text.proofs.past_key.Goals as goal

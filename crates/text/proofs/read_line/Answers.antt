@@ -1,7 +1,7 @@
 -- The line read is the paper's: the key's and the number's promises, chained through the paper's own steps.
-use Rattle.std.proofs.Common.{◌≡◌, ℕ, List, drop, sym, ap, ◌∙◌, le-leb}
+use Rattle.std.proofs.Common.{◌≡◌, ℕ, List, sym, ap, ◌∙◌, le-leb}
 use Rattle.std.proofs.lemmas.Bool.{lt-leb}
-use Rattle.paper.specs.Text.{Line, After, after, Number, number, other_key, no_number, one, numbered, ranged, after_key, number_at}
+use Rattle.paper.specs.Text.{Line, After, after, Number, one, numbered, ranged, after_key, number_at}
 use Rattle.text.proofs.read_line.Goals as goal
 
 -- what a line is, once its key is past

@@ -14,7 +14,7 @@ loop-i-preserved c =
     let s = c.args.s.now in
     let n = c.next_line-count.result in
     fill_step read_release put s 3 n.value n.pos no_releases l.invariant c.loop-i-test.true
-    (omega (arith, c.next_line-va.ensures.lines, c.next_line-vt.ensures.lines, c.next_line-vu.ensures.lines))
+    (omega arith)
     (then s (λ w. give (put (columns_of l.at l.task l.units) l.i w))
     (then s _ c.next_line-va.ensures.read
     (then s _ c.next_line-vt.ensures.read

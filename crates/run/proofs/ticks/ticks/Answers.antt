@@ -1,7 +1,7 @@
 -- `ticks::ticks` makes the ticks of the paper's run: a tick more keeps the invariant, and a release that meets an unfinished job ends it.
 use Rattle.std.proofs.Common.{refl, arith}
 use Rattle.run.specs.Going.{going_first, going_next, going_ended, ended_place, going_last}
-use Rattle.run.specs.Seating.{sat_first, sat_next, seats_ended, seats_last}
+use Rattle.run.specs.Seating.{sat_first, sat_next}
 use Rattle.run.proofs.ticks.ticks.Goals as goal
 
 pub loop-time-init : goal.loop-time-init

@@ -1,5 +1,5 @@
 -- `units::named` names every release's units: each turn keeps a release's own number, or puts its task's full c for 0.
-use Rattle.std.proofs.Common.{◌∙◌, refl, length, length-set, arith}
+use Rattle.std.proofs.Common.{◌∙◌, refl, length-set, arith}
 use Rattle.run.specs.Naming.{naming_full, naming_kept, naming_last, some, on_board, full_fits}
 use Rattle.run.proofs.units.named.Goals as goal
 use Rattle.run.proofs.units.named.Goals.{then-units-p-eq0, else-units-p-eq0}

@@ -1,5 +1,5 @@
 -- A line is its key, its digits and LF, placed one after the other.
-use Rattle.std.proofs.Common.{◌≡◌, ◌<◌, refl, length, arith}
+use Rattle.std.proofs.Common.{◌<◌, length, arith}
 use Rattle.paper.specs.Basics.{decimal}
 use Rattle.paper.proofs.Laws.Decimal.{decimal-length}
 use Rattle.text.specs.Placing.{placed_one, placed_then, placed_length}
