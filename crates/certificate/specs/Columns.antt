@@ -1,23 +1,28 @@
 -- The columns' speeds in tables.
-use Rattle.std.specs.Prelude.{◌≡◌, List, ℕ, ◌≤◌, ◌<◌, get_or}
+use Rattle.std.specs.Prelude.{◌≡◌, List, ℕ, ◌≤◌, ◌<◌, length, get_or}
 use Rattle.paper.specs.Certificate.{S, own}
 use Rattle.quantity.specs.Quantity.{speed}
 use Rattle.quantity.specs.declared.Speed.{Speed}
-use Rattle.certificate.specs.declared.columns.Columns.{Columns}
+use Rattle.board.specs.declared.Task.{Task}
+use Rattle.certificate.specs.declared.columns.Column.{Column}
 
--- at most 8 processors of at most 100 units for each tick
-pub record Slow (procs : ℕ) (speeds : List Speed) : Type 0 where
-  pub few : procs ≤ 8
-  pub each : (p : ℕ) → p < procs → (get_or speeds p (speed 0)).0 ≤ 100
+-- at most 100 units for each tick on each processor
+pub record Slow (speeds : List Speed) : Type 0 where
+  pub each : (p : ℕ) → p < length speeds → (get_or speeds p (speed 0)).0 ≤ 100
 
--- nine places each: S_j and s_(j+1)
-pub record Tables (speeds : List ℕ) (t : Columns) : Type 0 where
-  pub sums : (j : ℕ) → j < 9 → (get_or t.sums j (speed 0)).0 ≡ S speeds j
-  pub own : (j : ℕ) → j < 9 → (get_or t.own j (speed 0)).0 ≡ own speeds j
+-- a column of speeds 0
+abbrev pub no_column : Column
+no_column = record { sum = speed 0; own = speed 0 }
+
+-- the tables of S_j and s_(j+1), side by side in nine columns
+pub record Tables (speeds : List ℕ) (columns : List Column) : Type 0 where
+  pub count : length columns ≡ 9
+  pub sums : (j : ℕ) → j < 9 → (get_or columns j no_column).sum.0 ≡ S speeds j
+  pub own : (j : ℕ) → j < 9 → (get_or columns j no_column).own.0 ≡ own speeds j
 
 -- a column's speeds and a task's numbers, small enough for the sum of their products
-pub record Columned (sum owns : Speed) (y z : ℕ) : Type 0 where
-  pub slow_sum : sum.0 ≤ 800
-  pub slow_own : owns.0 ≤ 100
-  pub by_y : y ≤ 100000
-  pub by_z : z ≤ 100000
+pub record Columned (column : Column) (task : Task) : Type 0 where
+  pub slow_sum : column.sum.0 ≤ 800
+  pub slow_own : column.own.0 ≤ 100
+  pub by_y : task.y ≤ 100000
+  pub by_z : task.z ≤ 100000

@@ -1,14 +1,16 @@
 -- One byte more than a text may have tells as much as the whole input. Assumes nothing.
-use Rattle.std.specs.Prelude.{ℕ, ◌≤◌, ◌<◌, ◌≡◌, List, [], ◌++◌, length, take, drop, Option, None, Some, IfSome}
-use Rattle.std.proofs.Common.{sym, ap, ◌∙◌, arith, append-nil, length-append, subst, take_at}
+use Rattle.std.specs.Prelude.{ℕ, ◌≤◌, ◌<◌, ◌≡◌, List, [], ◌++◌, length, Option, None, Some, IfSome}
+use Rattle.std.proofs.Common.{sym, ap, ◌∙◌, arith, append-nil, length-append, subst}
 use borrow.Author.Tests.{lt-leb}
 use Rattle.std.specs.Io.KnownBytes.{Consumes, Appends, IsAtEnd}
+use Rattle.std.specs.Fn.{Once, FnOnceReturnsAt}
+use denote.Ref.{Bor}
+use Rattle.console.specs.Answered.{Answered}
 use Rattle.paper.specs.Text.{Reader, whole}
 use Rattle.paper.proofs.Laws.Tests.{on_le}
 use Rattle.paper.specs.Check.{check}
 use Rattle.paper.specs.Run.{run}
 use Rattle.paper.specs.Output.{check_prints, run_prints}
-use Rattle.console.specs.Report.{Reported}
 
 -- past 65,536 bytes nothing is read
 pub whole_long : {A : Type 0} (m : Reader A) (xs ys : List ℕ) → 65536 < length xs → whole m (xs ++ ys) ≡ whole m xs
@@ -39,7 +41,11 @@ module _ (prints : List ℕ → List ℕ) (long : (xs ys : List ℕ) → 65536 <
   enough (Some text) None c d xs read end said = absurd read
   enough (Some text) (Some rest) c d xs read end said = subst (λ bs. Appends c d bs) (same xs rest end ∙ ap prints (sym read)) said
 
--- what a report put into its buffer
-pub reported_bytes : {printed old new : List ℕ} {end : ℕ} → Reported printed old new end → take end new ≡ printed
-reported_bytes {printed} {old} {new} {end} r =
-    ap (take end) r.bytes.same ∙ take_at printed (drop end old) end (omega (arith, r.bytes.ends))
+  -- where a report gives what is printed for each text, that is what is written for the whole input
+  pub answered : {F T : Type 0} (fn : Once F (Bor (List ℕ) × Unit {0}) T) (bytes : T → List ℕ) (report : F)
+      → ((text : List ℕ) (said : T) → FnOnceReturnsAt fn report text said → bytes said ≡ prints text)
+      → (input before after : Option (List ℕ)) → Answered fn bytes report input before after
+      → IfSome input (λ text. Appends before after (prints text))
+  answered fn bytes report says input before after a =
+      enough input a.rest before after a.text a.read a.whole
+      (subst (λ bs. Appends before after bs) (says a.text a.said a.reported) a.written)

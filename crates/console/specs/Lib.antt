@@ -1,4 +1,3 @@
-pub mod Filled
-pub mod Report
-pub mod Counted
+pub mod Answered
 pub mod Loss
+pub mod Counted

@@ -1,67 +1,41 @@
-// What the programs share: reading their input.
+// What the programs share: reading all input and answering it at once.
 #![tactic(auto)]
 
 ghost use Rattle.io.specs.Counts.{IsPrefixLen};
 ghost use Rattle.std.specs.Io.KnownBytes.{Consumes, IsAtEnd};
-ghost use Rattle.console.specs.Filled.{Filled};
-ghost use Rattle.std.specs.Prelude.{◌≡◌, ◌≤◌, ◌<◌, length, take, slice_range, IsNone};
+ghost use Rattle.std.specs.Prelude.{◌≡◌, ◌<◌, length, take, OnOk, IfOk, IfErr};
+ghost use Rattle.console.specs.Answered.{Answered};
+ghost use Rattle.console.specs.Loss.{IsReading, bytes_read};
+ghost use Rattle.console.specs.declared.Lost.TheVariants.{Reading};
 
-use std::fmt;
-use std::io::{Error, Read, Result};
+use std::convert::AsSlice;
+use std::io::{Error, Read, Write};
+use std::{fmt, io};
 
-// How many bytes were read, and why reading broke off, if it did.
-#[derive(Clone, Copy)]
-pub struct Input {
-    pub length: usize,
-    pub failed: Option<Error>,
-}
-
-// One read into the part of `buffer` from `done` on: how far it is filled now, and with what.
-fn read_more<R: Read>(from: &mut R, buffer: &mut [u8], done: usize) -> Input
-    requires { done ≤ length buffer.old }
-    ensures filled { Filled done result.length buffer.new }
-    ensures front { take done buffer.new ≡ take done buffer.old }
-    ensures bytes { Consumes (R.remaining from.old) (R.remaining from.new)
-        (slice_range buffer.new done result.length) }
-    ensures end { IsNone result.failed → result.length ≡ done → done < length buffer.old
-        → IsAtEnd (R.remaining from.new) }
-{
-    match from.read(&mut buffer[done..]) {
-        Ok(more) => Input {
-            length: done + more,
-            failed: None,
-        },
-        Err(error) => Input {
-            length: done,
-            failed: Some(error),
-        },
-    }
+// Reading broke off: how many bytes had been read, and why no more were.
+#[derive(Clone, Copy, Debug)]
+pub struct Cut {
+    pub read: usize,
+    pub why: Error,
 }
 
 // Fills `buffer` until it is full, the input ends or a read fails. What is counted is what was read,
 // and where no read failed and there is room left, it is all that there was.
-pub fn read_input<R: Read>(from: &mut R, buffer: &mut [u8]) -> Input
-    ensures counts { IsPrefixLen result.length buffer.new }
-    ensures bytes { Consumes (R.remaining from.old) (R.remaining from.new)
-        (take result.length buffer.new) }
-    ensures end { IsNone result.failed → result.length < length buffer.new
-        → IsAtEnd (R.remaining from.new) }
+pub fn read_input<R: Read>(from: &mut R, buffer: &mut [u8]) -> Result<usize, Cut>
+    ensures counts { IsPrefixLen (bytes_read result) buffer.new }
+    ensures bytes { Consumes (R.remaining from.old) (R.remaining from.new) (take (bytes_read result) buffer.new) }
+    ensures end { IfOk result (λ n. n < length buffer.new → IsAtEnd (R.remaining from.new)) }
 {
-    let mut done = 0;
-    while done < buffer.len() {
-        let next = read_more(from, buffer, done);
-        if next.failed.is_some() {
-            return next;
+    let mut read = 0;
+    // Only the reader knows how many reads it takes, so this is no walk over anything that is there before it.
+    while read < buffer.len() {
+        match from.read(&mut buffer[read..]) {
+            Ok(0) => return Ok(read),
+            Ok(more) => read += more,
+            Err(why) => return Err(Cut { read, why }),
         }
-        if next.length == done {
-            return next;
-        }
-        done = next.length;
     }
-    Input {
-        length: done,
-        failed: None,
-    }
+    Ok(read)
 }
 
 // The system's number of the error at a descriptor that is not open, EBADF.
@@ -72,16 +46,10 @@ const NOT_OPEN: i32 = 9;
 pub struct OrClosed<R>(pub R);
 
 impl<R: Read> Read for OrClosed<R> {
-    fn read(&mut self, buf: &mut [u8]) -> Result<usize> {
+    fn read(&mut self, buf: &mut [u8]) -> io::Result<usize> {
         match self.0.read(buf) {
-            Ok(n) => Ok(n),
-            Err(error) => {
-                if error.raw_os_error() == Some(NOT_OPEN) {
-                    Ok(0)
-                } else {
-                    Err(error)
-                }
-            }
+            Err(error) if error.raw_os_error() == Some(NOT_OPEN) => Ok(0),
+            read => read,
         }
     }
 }
@@ -93,6 +61,16 @@ pub enum Lost {
     Writing(Error),
 }
 
+impl From<Cut> for Lost {
+    ghost from_gives = { λ cut lost. lost ≡ Reading cut.why };
+
+    fn from(cut: Cut) -> Lost
+        ensures { result ≡ Lost.Reading cut.why }
+    {
+        Lost::Reading(cut.why)
+    }
+}
+
 impl fmt::Display for Lost {
     fn fmt<W: fmt::Write>(&self, f: &mut fmt::Formatter<W>) -> fmt::Result {
         match self {
@@ -100,4 +78,21 @@ impl fmt::Display for Lost {
             Lost::Writing(error) => write!(f, "standard output: {error}"),
         }
     }
+}
+
+// Writes what `report` gives of all that `from` has. One byte more than a text can have is read, so that a longer input
+// is known to be longer.
+pub fn answer<R: Read, W: Write, T: AsSlice<u8> + Drop, F: FnOnce(&[u8]) -> T>(
+    from: &mut R,
+    to: &mut W,
+    report: F,
+) -> Result<(), Lost>
+    requires { F.IsAlwaysCallable report }
+    ensures ok { OnOk result (Answered F.FnOnce T.items report (R.remaining from.old) (W.contents to.old) (W.contents to.new)) }
+    ensures err { IfErr result (λ lost. IsReading lost → to.new ≡ to.old) }
+{
+    let mut bytes = [0u8; 65537];
+    let read = read_input(from, &mut bytes)?;
+    let said = report(&bytes[..read]);
+    to.write_all(said.as_slice()).map_err(Lost::Writing)
 }

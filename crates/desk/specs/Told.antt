@@ -1,8 +1,7 @@
 -- What a call from C is told: the numbers of an answer, and what the lent places hold.
 use Rattle.std.specs.Prelude.{ℕ, ◌≡◌, List, cond, length, leb}
-use Rattle.paper.specs.Answers.{numbers_of}
+use Rattle.paper.specs.Answers.{Answer, numbers_of}
 use Rattle.paper.specs.Run.{over}
-use Rattle.paper.specs.declared.Answer.{Answer}
 
 -- the code is the result, place and detail stand where they were asked for
 pub record Told (answer : Answer) (code place detail : ℕ) : Type 0 where

@@ -1,41 +1,44 @@
 // The entries for the planning desk's C program (include/batkhreli.h): an answer as code, place and detail.
 #![tactic(auto)]
 
-ghost use Rattle.std.specs.Prelude.{◌≡◌, ◌≤◌, take};
+ghost use Rattle.std.specs.Prelude.{◌≡◌};
 ghost use Rattle.paper.specs.Check.{check};
 ghost use Rattle.paper.specs.Run.{run};
 ghost use Rattle.paper.specs.Tables.{table};
 ghost use Rattle.verdict.specs.Checks.{slack_numbers};
 ghost use Rattle.desk.specs.Told.{Told, slacks_in};
 
+use paper::{Numbers, Refusal};
 use quantity::Units;
+
+// Tells an answer: place and detail stand where they were asked for, and the code is the result.
+fn tell(answer: Result<(), Refusal>, place: &mut u32, detail: &mut u32) -> u32
+    ensures { Told answer result place.new detail.new }
+{
+    let numbers = Numbers::from(answer);
+    *place = numbers.place;
+    *detail = numbers.detail;
+    numbers.code
+}
 
 // Checks the bounds of a board.
 #[unsafe(no_mangle)]
 pub extern "C" fn batkhreli_check(board: &[u8], place: &mut u32, detail: &mut u32) -> u32
     ensures { Told (check board.now).answer result place.new detail.new }
 {
-    let checked = verdict::check(board);
-    let answer = checked.answer;
-    let numbers = answer.numbers();
-    *place = numbers.place;
-    *detail = numbers.detail;
-    numbers.code
+    tell(verdict::check(board).map(|_| ()), place, detail)
 }
 
-// The slacks in the first places, where there is a place for each of them.
-fn put_slacks(slacks: [Units; 96], count: usize, places: &mut [u64])
-    requires { count ≤ 96 }
-    ensures { places.new ≡ slacks_in (take count (slack_numbers slacks)) places.old }
+// The slacks in the first places, where there is a place for each of them. By index: what is written through `iter_mut` in a zip is
+// not known after it.
+fn put_slacks(slacks: &[Units], places: &mut [u64])
+    ensures { places.new ≡ slacks_in (slack_numbers slacks.now) places.old }
 {
-    if places.len() < count {
+    if places.len() < slacks.len() {
         return;
     }
-    let mut i = 0;
-    while i < count {
-        let slack = slacks[i];
+    for (i, slack) in slacks.iter().enumerate() {
         places[i] = slack.0;
-        i += 1;
     }
 }
 
@@ -51,13 +54,10 @@ pub extern "C" fn batkhreli_slacks(
     ensures slacks_after { slacks.new ≡ slacks_in (check board.now).slacks slacks.old }
 {
     let checked = verdict::check(board);
-    let found = checked.slacks;
-    put_slacks(found, checked.count as usize, slacks);
-    let answer = checked.answer;
-    let numbers = answer.numbers();
-    *place = numbers.place;
-    *detail = numbers.detail;
-    numbers.code
+    if let Ok(found) = &checked {
+        put_slacks(found, slacks);
+    }
+    tell(checked.map(|_| ()), place, detail)
 }
 
 // Runs a board and a release list; the responses go into the lent places.
@@ -71,12 +71,7 @@ pub extern "C" fn batkhreli_run(
     ensures told { Told (run text.now places.old).answer result place.new detail.new }
     ensures places_after { places.new ≡ (run text.now places.old).places }
 {
-    let finished = run::run(text, places);
-    let answer = finished.answer;
-    let numbers = answer.numbers();
-    *place = numbers.place;
-    *detail = numbers.detail;
-    numbers.code
+    tell(run::run(text, places).map(|_| ()), place, detail)
 }
 
 // The table of one tick of a run; after 0 it stands in the eight seats.
@@ -91,12 +86,9 @@ pub extern "C" fn batkhreli_table(
     ensures told { Told (table text.now tick seats.old).answer result place.new detail.new }
     ensures seats_after { seats.new ≡ (table text.now tick seats.old).places }
 {
-    let seated = run::table::table(text, tick, *seats);
-    let found = seated.seats;
-    *seats = found;
-    let answer = seated.answer;
-    let numbers = answer.numbers();
-    *place = numbers.place;
-    *detail = numbers.detail;
-    numbers.code
+    let shown = run::table::table(text, tick);
+    if let Ok(table) = shown {
+        *seats = table;
+    }
+    tell(shown.map(|_| ()), place, detail)
 }

@@ -1,5 +1,5 @@
 -- Demand 3 from the bytes on: a board's text reads as the same board when a list's text follows it. Assumes nothing.
-use Rattle.std.specs.Prelude.{◌≡◌, refl, List, ◌++◌, ℕ, ◌≤◌, ◌<◌, length, get_or, drop}
+use Rattle.std.specs.Prelude.{◌≡◌, refl, List, ◌++◌, ℕ, ◌≤◌, ◌<◌, length, get_or, drop, Err}
 use Rattle.std.proofs.Common.{sym, subst, arith}
 use Rattle.std.proofs.Math.ListN.{get_or-append, get_or-eq_default}
 use Rattle.paper.proofs.Laws.Tests.{on_le}
@@ -14,7 +14,8 @@ use Rattle.paper.proofs.Laws.Ranges.{reads_board, reads_releases, both_in}
 use Rattle.paper.specs.Accepted.{Accepted, ReadsAs}
 use Rattle.paper.proofs.Laws.Acceptance.{done_accepted, none_rises}
 use Rattle.paper.proofs.Laws.Finishing.{none_late, runs_done, overruns}
-use Rattle.paper.specs.declared.Answer.TheVariants.{Done, Overrun}
+use Rattle.paper.specs.Answers.{Done}
+use Rattle.paper.specs.declared.Refusal.TheVariants.{Overrun}
 use Rattle.promises.specs.Demand3.{Finishes}
 use Rattle.promises.proofs.Demand3.{demand_3}
 
@@ -60,11 +61,11 @@ in_place r p responses places w =
     rw (get_or-append responses (drop (length responses) places) 0 p i) w
 
 -- no text after an accepted board's makes a release meet an unfinished job
-pub never_overruns : (board list places : List ℕ) → (check board).answer ≡ Done → (p a : ℕ) → (run (board ++ list) places).answer ≡ Overrun p a → ⊥
+pub never_overruns : (board list places : List ℕ) → (check board).answer ≡ Done → (p a : ℕ) → (run (board ++ list) places).answer ≡ Err (Overrun p a) → ⊥
 unfolding run run_read
 never_overruns board list places done p a = go (whole read_both (board ++ list)) refl
   where
-    go : (r : Read Both) → whole read_both (board ++ list) ≡ r → (run_read places r).answer ≡ Overrun p a → ⊥
+    go : (r : Read Both) → whole read_both (board ++ list) ≡ r → (run_read places r).answer ≡ Err (Overrun p a) → ⊥
     go (bad malformed n) e h = let z : ◌≡◌ {A = ℕ} 0 1 = cc in omega arith
     go (bad out_of_range n) e h = let z : ◌≡◌ {A = ℕ} 0 1 = cc in omega arith
     go (good x rest n) e h =

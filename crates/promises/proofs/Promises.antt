@@ -2,7 +2,7 @@
 -- these is said by its contracts: `verdict::check` by `Checks`, `run::run` by `Meets`, equations with `check` and `run`.
 -- No axiom, hole or assumption stands behind any of it: the last line of this crate's check would count axioms, and counts
 -- none. A statement asks for no more than is written in it.
-use Rattle.std.specs.Prelude.{◌≡◌, refl, List, [], ◌++◌, map, ℕ, ◌≤◌, length, get_or}
+use Rattle.std.specs.Prelude.{◌≡◌, refl, List, [], ◌++◌, map, ℕ, ◌≤◌, length, get_or, Err}
 use Rattle.std.proofs.Common.{sym, ◌∙◌, arith}
 use Rattle.paper.specs.Text.{good, whole}
 use Rattle.paper.specs.Board.{Board}
@@ -21,7 +21,8 @@ use Rattle.paper.specs.Laws.Steps.{Holds}
 use Rattle.paper.specs.Accepted.{Accepted, Slacks, ReadsAs}
 use Rattle.paper.specs.Laws.Acceptance.{slacks_from}
 use Rattle.paper.proofs.Laws.Acceptance.{done_accepted, accepted_done, slacks_of}
-use Rattle.paper.specs.declared.Answer.TheVariants.{Done, Overrun}
+use Rattle.paper.specs.Answers.{Done}
+use Rattle.paper.specs.declared.Refusal.TheVariants.{Overrun}
 use Rattle.promises.specs.Horizon.{SpacedBefore}
 use Rattle.promises.specs.Settled.{Between}
 use Rattle.promises.specs.Demand3.{InTime, Finishes}
@@ -44,7 +45,7 @@ in_time board list places x h =
     rw e (record { done = refl; places = λ p i. in_place (bound_of x p) p f.state.responses places (told p i); responses = told })
 
 -- Whatever text follows an accepted board's, the run never answers 9.
-pub never_9 : (board list places : List ℕ) → (check board).answer ≡ Done → (p a : ℕ) → (run (board ++ list) places).answer ≡ Overrun p a → ⊥
+pub never_9 : (board list places : List ℕ) → (check board).answer ≡ Done → (p a : ℕ) → (run (board ++ list) places).answer ≡ Err (Overrun p a) → ⊥
 never_9 = never_overruns
 
 -- The same of the scheduler itself: on an accepted board no release of a legal list meets an unfinished job, so that the run

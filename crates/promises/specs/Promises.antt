@@ -7,7 +7,7 @@ use Rattle.paper.specs.Check.{check}
 use Rattle.paper.specs.Run.{Both, read_both, Finished}
 use Rattle.paper.specs.Laws.Reading.{In}
 use Rattle.paper.specs.Laws.Legal.{nth}
-use Rattle.paper.specs.declared.Answer.TheVariants.{Done}
+use Rattle.paper.specs.Answers.{Done}
 
 -- the texts of an accepted board and of a legal list, and enough places
 pub record Asked (board list places : List ℕ) (x : Both) : Type 0 where

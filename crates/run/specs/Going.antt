@@ -1,122 +1,139 @@
 -- The ticks of a run, one after the other: what is known before tick a, and what comes of the last. Assumes nothing.
-use Rattle.std.specs.Prelude.{◌≡◌, refl, true, false, List, [], ℕ, suc, ◌+◌, ◌-◌, ◌≤◌, ◌<◌, length, take, drop, replicate}
-use Rattle.std.proofs.Common.{sym, ◌∙◌, arith, add-one}
-use Rattle.std.proofs.Math.Path.{ap, subst}
+use Rattle.std.specs.Prelude.{◌≡◌, refl, ℕ, suc, ◌+◌, ◌-◌, ◌≤◌, ◌<◌, List, [], length, take, drop, replicate, Result, Ok, Err}
+use Rattle.std.proofs.Common.{sym, ap, ◌∙◌, arith, add-one}
 use Rattle.paper.specs.Board.{Board}
-use Rattle.paper.specs.Releases.{Release}
-use Rattle.paper.specs.Scheduler.{State, Ran, ran, overran, fresh, after}
+use Rattle.paper.specs.Releases as paper
+use Rattle.paper.specs.Scheduler.{State, ran, overran, fresh, after}
 use Rattle.paper.proofs.Laws.Onward.{after-tick, after_overrun, tick_place}
+use Rattle.quantity.specs.Quantity.{speeds_of}
 use Rattle.quantity.specs.declared.Speed.{Speed}
-use Rattle.releases.specs.Packed.{releases_from}
-use Rattle.releases.specs.Places.{releases_length}
+use Rattle.releases.specs.Packed.{releases_of}
+use Rattle.releases.specs.Places.{releases_count}
+use Rattle.releases.specs.declared.Release.{Release}
 use Rattle.scheduler.specs.State.{fresh_run, state_of}
-use Rattle.scheduler.specs.Tick.{Listed, speeds_of, told, Standing, Ticked}
-use Rattle.scheduler.specs.Kept.{state_fresh, standing_fresh, standing_kept, told_going, told-stopped, state_responses}
+use Rattle.scheduler.specs.Tick.{Listed, told, Standing, Ticked}
+use Rattle.scheduler.specs.Kept.{state_fresh, standing_fresh, standing_kept, state_responses}
 use Rattle.scheduler.specs.declared.RunState.{RunState}
-use Rattle.run.specs.declared.ticks.Outcome.{Outcome}
-use Rattle.run.specs.declared.ticks.Outcome.TheVariants.{Through, Overran}
+use Rattle.scheduler.specs.declared.Overrun.{Overrun}
+use Rattle.run.specs.Seating.{last_seats, sat_first, sat_next}
 
--- how far the paper says that a run came
-abbrev pub outcome_of : Ran → Outcome
-outcome_of (ran x) = Through
-outcome_of (overran p a) = Overran p a
+-- what a run asks: a legal list with its units named, and room for a response of each release
+pub record Runs (speeds : List Speed) (releases : List Release) (horizon room : ℕ) : Type 0 where
+  pub platform : length speeds ≤ 8
+  pub listed : Listed (releases_of releases)
+  pub last : horizon ≤ 1000000
+  pub places : length releases ≤ room
 
 -- what the ticks ask: a legal list with its units named, and a place that holds 0 for each release
-pub record Ready (procs : ℕ) (at task units : List ℕ) (count horizon : ℕ) (places : List ℕ) : Type 0 where
-  pub platform : procs ≤ 8
-  pub listed : Listed at task units count
-  pub lent : count ≤ length places
-  pub clear : take count places ≡ replicate count 0
+pub record Ready (speeds : List Speed) (releases : List Release) (horizon : ℕ) (places : List ℕ) : Type 0 where
+  pub platform : length speeds ≤ 8
+  pub listed : Listed (releases_of releases)
+  pub lent : length releases ≤ length places
+  pub clear : take (length releases) places ≡ replicate (length releases) 0
   pub last : horizon ≤ 1000000
 
--- the releases in three columns
-abbrev pub columns : List ℕ → List ℕ → List ℕ → ℕ → List Release
-columns at task units count = releases_from at task units 0 count
+-- how the paper's run ends: with these responses, and the table of its last tick; or at the release that met an unfinished job
+abbrev pub Ends : Board → List paper.Release → ℕ → Result (List ℕ) Overrun → List ℕ → Type 0
+Ends b list horizon (Ok seats) responses =
+    (x : State) × (after b list horizon ≡ ran x) × (responses ≡ x.responses) × (seats ≡ last_seats b list horizon)
+Ends b list horizon (Err overrun) responses = after b list horizon ≡ overran overrun.release overrun.tick.0
 
--- what comes of them: how far the paper's run comes, for any board with these speeds; the first places are its responses, the
+-- what comes of the ticks: the end of the paper's run, for any board with these speeds; the first places are its responses, the
 -- others stay
-pub record Went (procs : ℕ) (speeds : List Speed) (at task units : List ℕ) (count horizon : ℕ) (before : List ℕ) (r : Outcome) (places : List ℕ) : Type 0 where
-  pub outcome : (b : Board) → b.speeds ≡ speeds_of procs speeds → r ≡ outcome_of (after b (columns at task units count) horizon)
-  pub responses : (b : Board) → b.speeds ≡ speeds_of procs speeds → (x : State) → after b (columns at task units count) horizon ≡ ran x → take count places ≡ x.responses
-  pub rest : drop count places ≡ drop count before
+pub record Went (speeds : List Speed) (releases : List Release) (horizon : ℕ) (before : List ℕ) (r : Result (List ℕ) Overrun)
+    (places : List ℕ) : Type 0 where
+  pub ends : (b : Board) → b.speeds ≡ speeds_of speeds → Ends b (releases_of releases) horizon r (take (length releases) places)
+  pub rest : drop (length releases) places ≡ drop (length releases) before
   pub long : length places ≡ length before
 
 -- before tick a
-pub record Going (procs : ℕ) (speeds : List Speed) (at task units : List ℕ) (count horizon : ℕ) (before : List ℕ) (run : RunState) (places : List ℕ) (a : ℕ) : Type 0 where
+pub record Going (speeds : List Speed) (releases : List Release) (horizon : ℕ) (before : List ℕ) (run : RunState) (places : List ℕ)
+    (a : ℕ) : Type 0 where
   pub within : a ≤ horizon
   pub last : horizon ≤ 1000000
-  pub standing : Standing procs at task units count a run places
-  pub state : (b : Board) → b.speeds ≡ speeds_of procs speeds → after b (columns at task units count) a ≡ ran (state_of run (take count places))
-  pub rest : drop count places ≡ drop count before
+  pub standing : Standing speeds releases a run places
+  pub state : (b : Board) → b.speeds ≡ speeds_of speeds
+      → after b (releases_of releases) a ≡ ran (state_of run (take (length releases) places))
+  pub table : (b : Board) → b.speeds ≡ speeds_of speeds → run.table ≡ last_seats b (releases_of releases) a
+  pub rest : drop (length releases) places ≡ drop (length releases) before
   pub long : length places ≡ length before
 
-module _ (procs : ℕ) (speeds : List Speed) (at task units : List ℕ) (count horizon : ℕ) (before : List ℕ) where
-  pub going_first : Ready procs at task units count horizon before → (run : RunState) → run ≡ fresh_run → Going procs speeds at task units count horizon before run before 0
-  unfolding after
-  going_first h run e =
-      subst (λ (r : RunState). Going procs speeds at task units count horizon before r before 0) (sym e)
-      (record {
-        within = omega arith;
-        last = h.last;
-        standing = standing_fresh procs at task units count before h.platform h.listed h.lent;
-        state = λ b s.
-            ap (λ n. ran (fresh n)) (releases_length at task units 0 count)
-            ∙ ap ran (sym (state_fresh count) ∙ ap (state_of fresh_run) (sym h.clear));
-        rest = refl;
-        long = refl;
-      })
+module _ (speeds : List Speed) (releases : List Release) (horizon : ℕ) (before : List ℕ) where
+  abbrev list : List paper.Release
+  list = releases_of releases
 
-  module _ (run : RunState) (places : List ℕ) (a : ℕ) (g : Going procs speeds at task units count horizon before run places a) where
-    pub going_last : horizon ≤ a → Went procs speeds at task units count horizon before Through places
+  abbrev first : List ℕ → List ℕ
+  first places = take (length releases) places
+
+  pub going_first : Ready speeds releases horizon before → (run : RunState) → run ≡ fresh_run
+      → Going speeds releases horizon before run before 0
+  unfolding after
+  going_first h run e = record {
+    within = omega arith;
+    last = h.last;
+    standing = rw e (standing_fresh speeds releases before h.platform h.listed h.lent);
+    state = λ b s.
+        ap (λ n. ran (fresh n)) (releases_count releases)
+        ∙ ap ran
+        (sym (state_fresh (length releases))
+        ∙ ap (state_of fresh_run) (sym h.clear)
+        ∙ ap (λ (r : RunState). state_of r (first before)) (sym e));
+    table = λ b s. sat_first run e b list;
+    rest = refl;
+    long = refl;
+  }
+
+  module _ (run : RunState) (places : List ℕ) (a : ℕ) (g : Going speeds releases horizon before run places a) where
+    -- all ticks were made
+    pub going_last : horizon ≤ a → Went speeds releases horizon before (Ok run.table) places
     going_last h = record {
-      outcome = λ b s. sym (ap outcome_of (whole b s));
-      responses = λ b s x e.
-          let same : ran (state_of run (take count places)) ≡ ran x = sym (whole b s) ∙ e in
-          let state : state_of run (take count places) ≡ x = cc in
-          sym (state_responses run (take count places)) ∙ ap (λ (y : State). y.responses) state;
+      ends = λ b s. (
+        state_of run (first places),
+        ap (after b list) whole ∙ g.state b s,
+        sym (state_responses run (first places)),
+        g.table b s ∙ ap (last_seats b list) (sym whole),
+      );
       rest = g.rest;
       long = g.long;
     }
       where
-        whole : (b : Board) → b.speeds ≡ speeds_of procs speeds → after b (columns at task units count) horizon ≡ ran (state_of run (take count places))
-        whole b s = ap (after b (columns at task units count)) (let w = g.within in omega arith) ∙ g.state b s
+        whole : horizon ≡ a
+        whole = let w = g.within in omega arith
 
-    module _ (next : RunState) (after' : List ℕ) (t : Ticked procs speeds at task units count a run places next after') (more : a < horizon) where
-      one-tick : (b : Board) → b.speeds ≡ speeds_of procs speeds → after b (columns at task units count) (suc a) ≡ told next (take count after') a
-      one-tick b s = after-tick b (columns at task units count) a (state_of run (take count places)) (g.state b s) ∙ sym (t.tick b s)
+    module _ (more : a < horizon) (after' : List ℕ) where
+      one-tick : (r : Result RunState Overrun) → Ticked speeds releases a run places r after' → (b : Board) → b.speeds ≡ speeds_of speeds
+          → after b list (suc a) ≡ told r (first after')
+      one-tick r t b s = after-tick b list a (state_of run (first places)) (g.state b s) ∙ sym (t.tick b s)
 
-      pub going_next : next.overrun ≡ false → Going procs speeds at task units count horizon before next after' (a + 1)
-      going_next e = record {
+      pub going_next : (next : RunState) → Ticked speeds releases a run places (Ok next) after'
+          → Going speeds releases horizon before next after' (a + 1)
+      going_next next t = record {
         within = omega arith;
         last = g.last;
-        standing = standing_kept procs speeds at task units count a run places next after' g.standing t e (let h = g.last in omega arith);
-        state = λ b s. ap (after b (columns at task units count)) (add-one a) ∙ one-tick b s ∙ told_going next (take count after') a e;
+        standing = standing_kept speeds releases a run places next after' g.standing t (let h = g.last in omega arith);
+        state = λ b s. ap (after b list) (add-one a) ∙ one-tick (Ok next) t b s;
+        table = λ b s.
+            t.table b s ∙ sat_next b list a (state_of run (first places)) (g.state b s) ∙ ap (last_seats b list) (sym (add-one a));
         rest = t.rest ∙ g.rest;
         long = t.long ∙ g.long;
       }
 
       -- the release that ended the run is one of the list
-      pub ended_place : next.overrun ≡ true → next.next < count
-      ended_place e =
-          let bare : Board = record { speeds = speeds_of procs speeds; tasks = [] } in
-          let h = tick_place bare (columns at task units count) a (state_of run (take count places)) (suc next.next) a
-          (sym (t.tick bare refl) ∙ told-stopped next (take count after') a e) in
-          omega (arith, releases_length at task units 0 count)
+      pub ended_place : (overrun : Overrun) → Ticked speeds releases a run places (Err overrun) after' → overrun.release ≤ length releases
+      ended_place overrun t =
+          let bare : Board = record { speeds = speeds_of speeds; tasks = [] } in
+          let h = tick_place bare list a (state_of run (first places)) overrun.release overrun.tick.0 (sym (t.tick bare refl)) in
+          omega (arith, releases_count releases)
 
-      pub going_ended : next.overrun ≡ true → (p : ℕ) → p ≡ next.next + 1 → Went procs speeds at task units count horizon before (Overran p a) after'
-      going_ended e p f = record {
-        outcome = λ b s. ap (λ n. Overran n a) (f ∙ add-one next.next) ∙ sym (ap outcome_of (whole b s));
-        responses = λ b s x i.
-            let clash : overran (suc next.next) a ≡ ran x = sym (whole b s) ∙ i in
-            let z : ◌≡◌ {A = ℕ} 0 1 = cc in absurd (omega arith);
+      pub going_ended : (overrun : Overrun) → Ticked speeds releases a run places (Err overrun) after'
+          → Went speeds releases horizon before (Err overrun) after'
+      going_ended overrun t = record {
+        ends = λ b s.
+            ap (after b list) (split horizon a more)
+            ∙ after_overrun b list (suc a) (horizon - suc a) overrun.release overrun.tick.0 (one-tick (Err overrun) t b s);
         rest = t.rest ∙ g.rest;
         long = t.long ∙ g.long;
       }
         where
-          whole : (b : Board) → b.speeds ≡ speeds_of procs speeds → after b (columns at task units count) horizon ≡ overran (suc next.next) a
-          whole b s =
-              ap (after b (columns at task units count)) (split horizon a more)
-              ∙ after_overrun b (columns at task units count) (suc a) (horizon - suc a) (suc next.next) a (one-tick b s ∙ told-stopped next (take count after') a e)
-            where
-              split : (h a : ℕ) → a < h → h ≡ suc a + (h - suc a)
-              split h a l = omega arith
+          split : (h a : ℕ) → a < h → h ≡ suc a + (h - suc a)
+          split h a l = omega arith

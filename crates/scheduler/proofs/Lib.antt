@@ -1,5 +1,5 @@
+pub mod Tests
+pub mod Reached
 pub mod Releasing
-pub mod Answering
 pub mod Working
 pub mod Ticking
-pub mod Passed

@@ -1,83 +1,66 @@
 -- What a tick is given and what it promises, in the paper's words.
-use Rattle.std.specs.Prelude.{◌≡◌, ℕ, suc, ◌+◌, ◌-◌, ◌≤◌, ◌<◌, List, map, true, false, cond, length, get_or, set, take, drop, eqb}
+use Rattle.std.specs.Prelude.{◌≡◌, ℕ, suc, ◌+◌, ◌≤◌, ◌<◌, List, length, get_or, take, drop, Result, Ok, Err, IfOk, OnErr}
 use Rattle.paper.specs.Board.{Board}
+use Rattle.paper.specs.Releases as paper
+use Rattle.paper.specs.Laws.Ranges.{no_release}
 use Rattle.paper.specs.Laws.Reading.{In}
-use Rattle.paper.specs.Scheduler.{Ran, ran, overran, release, table, tick}
+use Rattle.paper.specs.Scheduler.{Ran, ran, overran, release, seated, tick}
+use Rattle.quantity.specs.Quantity.{speeds_of}
 use Rattle.quantity.specs.declared.Speed.{Speed}
-use Rattle.releases.specs.Packed.{releases_from}
+use Rattle.releases.specs.Packed.{releases_of}
+use Rattle.releases.specs.declared.Release.{Release}
 use Rattle.scheduler.specs.State.{state_of}
 use Rattle.scheduler.specs.declared.RunState.{RunState}
+use Rattle.scheduler.specs.declared.Overrun.{Overrun}
 
--- the first `count` places of three columns are the releases of a legal list, with every release's units named
-pub record Listed (at task units : List ℕ) (count : ℕ) : Type 0 where
-  pub few : count ≤ 1000
-  pub at_places : count ≤ length at
-  pub task-places : count ≤ length task
-  pub unit_places : count ≤ length units
-  pub rising : (p : ℕ) → suc p < count → get_or at p 0 ≤ get_or at (suc p) 0
-  pub known : (p : ℕ) → p < count → In 1 96 (get_or task p 0)
-  pub named : (p : ℕ) → p < count → 0 < get_or units p 0
+-- the release in place p of a list
+abbrev pub nth : List paper.Release → ℕ → paper.Release
+nth list p = get_or list p no_release
+
+-- a legal list, with every release's units named
+pub record Listed (list : List paper.Release) : Type 0 where
+  pub few : length list ≤ 1000
+  pub rising : (p : ℕ) → suc p < length list → (nth list p).at ≤ (nth list (suc p)).at
+  pub known : (p : ℕ) → p < length list → In 1 96 (nth list p).task
+  pub named : (p : ℕ) → p < length list → 0 < (nth list p).units
 
 -- before tick a the releases before `next` have had their turn, and the others have not
-pub record Cursor (at : List ℕ) (count next a : ℕ) : Type 0 where
-  pub within : next ≤ count
-  pub passed : (p : ℕ) → p < next → get_or at p 0 < a
-  pub ahead : (p : ℕ) → next ≤ p → p < count → a ≤ get_or at p 0
+pub record Cursor (list : List paper.Release) (next a : ℕ) : Type 0 where
+  pub within : next ≤ length list
+  pub passed : (p : ℕ) → p < next → (nth list p).at < a
+  pub ahead : (p : ℕ) → next ≤ p → p < length list → a ≤ (nth list p).at
 
--- a run that goes on, before tick a
-pub record Going (at : List ℕ) (count : ℕ) (run : RunState) (a : ℕ) : Type 0 where
-  pub cursor : Cursor at count run.next a
-  pub going : run.overrun ≡ false
+-- how far a result says that a run has come: its state, or the release that met an unfinished job, and its tick
+abbrev pub told : Result RunState Overrun → List ℕ → Ran
+told (Ok run) responses = ran (state_of run responses)
+told (Err overrun) responses = overran overrun.release overrun.tick.0
 
--- how far the run state says that a run has come at tick a
-unfoldable pub told : RunState → List ℕ → ℕ → Ran
-told run responses a = cond run.overrun (overran (suc run.next) a) (ran (state_of run responses))
-
--- a run that a release ended: nothing else is changed
-abbrev pub stopped : RunState → ℕ → RunState
-stopped run next =
-    record { left = run.left; since = run.since; job = run.job; table = run.table; next = next; overrun = true }
-
--- what the releases of tick a make of `run`
-pub record Released (at task units : List ℕ) (count a : ℕ) (run r : RunState) : Type 0 where
-  pub release : (b : Board) (responses : List ℕ)
-      → told r responses a ≡ release b a 0 (releases_from at task units 0 count) (state_of run responses)
-  pub table : r.table ≡ run.table
-  pub cursor : r.overrun ≡ false → Cursor at count r.next (a + 1)
-  pub stopped : r.overrun ≡ true → r ≡ stopped run r.next
-
--- the speeds of the processors that there are
-unfoldable pub speeds_of : ℕ → List Speed → List ℕ
-speeds_of procs speeds = map (λ (s : Speed). s.0) (take procs speeds)
-
--- the lent places when a job of `left` units, that of release p, released at `since`, ends tick a
-pub record Answered (count p since left a : ℕ) (before after : List ℕ) : Type 0 where
-  pub first : take count after ≡ cond (eqb left 0) (set (take count before) p (a + 1 - since)) (take count before)
-  pub rest : drop count after ≡ drop count before
-  pub long : length after ≡ length before
+-- what a step comes to: the state that was lent moves on, or the run ended
+abbrev pub stepped : Result Unit Overrun → RunState → Result RunState Overrun
+stepped (Ok done) run = Ok run
+stepped (Err overrun) run = Err overrun
 
 -- what a tick asks: a legal list, with a place lent for each release; a run that goes on, before tick a
-pub record Standing (procs : ℕ) (at task units : List ℕ) (count a : ℕ) (run : RunState) (places : List ℕ) : Type 0 where
-  pub platform : procs ≤ 8
-  pub listed : Listed at task units count
-  pub going : Going at count run a
-  pub lent : count ≤ length places
+pub record Standing (speeds : List Speed) (releases : List Release) (a : ℕ) (run : RunState) (places : List ℕ) : Type 0 where
+  pub platform : length speeds ≤ 8
+  pub listed : Listed (releases_of releases)
+  pub cursor : Cursor (releases_of releases) run.next a
+  pub lent : length releases ≤ length places
   pub horizon : a ≤ 1000000
 
--- who sits where once the releases are made; an overrun leaves the seats as they were
-unfoldable pub seated_after : List ℕ → ℕ → Ran → List ℕ
-seated_after seats procs (ran x) = table procs x.left
-seated_after seats procs (overran p a) = seats
+-- what the releases of tick a make of a state with these responses
+abbrev pub started : Board → List Release → ℕ → RunState → List ℕ → Ran
+started b releases a run responses = release b a 0 (releases_of releases) (state_of run responses)
 
--- what tick a makes of `run` and the lent places: the paper's tick, for any board with these speeds. The first `count` places
--- are the responses, the others stay. An overrun changes neither the 96 places nor the lent ones.
-pub record Ticked (procs : ℕ) (speeds : List Speed) (at task units : List ℕ) (count a : ℕ) (run : RunState) (before : List ℕ) (r : RunState) (after : List ℕ) : Type 0 where
-  pub tick : (b : Board) → b.speeds ≡ speeds_of procs speeds
-      → told r (take count after) a ≡ tick b (releases_from at task units 0 count) a (state_of run (take count before))
-  pub table : (b : Board)
-      → r.table ≡ seated_after run.table procs (release b a 0 (releases_from at task units 0 count) (state_of run (take count before)))
-  pub rest : drop count after ≡ drop count before
+-- what tick a makes of `run` and the lent places: the paper's tick, for any board with these speeds. The first places are the
+-- responses, one for each release, and the others stay. An overrun leaves the lent places as they were.
+pub record Ticked (speeds : List Speed) (releases : List Release) (a : ℕ) (run : RunState) (before : List ℕ)
+    (r : Result RunState Overrun) (after : List ℕ) : Type 0 where
+  pub tick : (b : Board) → b.speeds ≡ speeds_of speeds
+      → told r (take (length releases) after) ≡ tick b (releases_of releases) a (state_of run (take (length releases) before))
+  pub table : (b : Board) → b.speeds ≡ speeds_of speeds
+      → IfOk r (λ next. next.table ≡ seated b (started b releases a run (take (length releases) before)))
+  pub cursor : IfOk r (λ next. Cursor (releases_of releases) next.next (a + 1))
+  pub rest : drop (length releases) after ≡ drop (length releases) before
   pub long : length after ≡ length before
-  pub cursor : r.overrun ≡ false → Cursor at count r.next (a + 1)
-  pub stopped : r.overrun ≡ true → r ≡ stopped run r.next
-  pub untouched : r.overrun ≡ true → after ≡ before
+  pub untouched : OnErr r (after ≡ before)

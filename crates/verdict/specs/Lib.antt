@@ -1,3 +1,4 @@
 pub mod Checks
+-- laws of it
 pub mod Steps
 pub mod Promise

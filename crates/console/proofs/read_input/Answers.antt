@@ -1,29 +1,31 @@
 -- What two reads gave, one after the other, is what stands in the buffer up to where the second one ended.
-use Rattle.std.proofs.Common.{◌≡◌, ℕ, ◌+◌, ◌-◌, ◌≤◌, List, ◌++◌, rules, arith, take, slice_range, sym, ap, ◌∙◌, subst}
-use Rattle.std.specs.Prelude.{Option}
+use Rattle.std.proofs.Common.{◌≡◌, ℕ, ◌+◌, ◌-◌, ◌≤◌, List, ◌++◌, length, take}
+use Rattle.std.proofs.Common.{rules, arith, length-take, ◌∙◌, sym, refl, subst, take_at, drop_at}
 use Rattle.std.specs.Io.KnownBytes.{Consumes}
 use Rattle.std.proofs.KnownBytes.{Consumes-trans}
-use lib.Seq.{take-add}
+use borrow.Rule.Slice.PartMut.{put_mid, post_of}
+use lib.Seq.{take-add, take-append-le}
 use Rattle.console.proofs.read_input.Goals as goal
 
-joined : (a b c : Option (List ℕ)) (done next : ℕ) (old new : List ℕ) → done ≤ next → take done new ≡ take done old
-    → Consumes a b (take done old) → Consumes b c (slice_range new done next) → Consumes a c (take next new)
-joined a b c done next old new more front first second =
-    let same : done + (next - done) ≡ next = omega arith in
-    let whole : take done old ++ slice_range new done next ≡ take next new =
-    ap (λ l. l ++ slice_range new done next) (sym front) ∙ sym (take-add done (next - done) new) ∙ ap (λ n. take n new) same in
-    subst (Consumes a c) whole (Consumes-trans a b c _ _ first second)
+-- what stands in a buffer up to there, once its part from `at` on was written
+front : (at room more : ℕ) (old part : List ℕ) → at ≤ length old → more ≤ length part
+    → take (at + more) (put_mid at room old part) ≡ take at old ++ take more part
+front at room more old part within fits =
+    let long : length (take at old) ≡ at = length-take at old ∙ omega arith in
+    let rest = part ++ post_of at room old in
+    take-add at more (put_mid at room old part)
+    ∙ rw (take_at (take at old) rest at long, drop_at (take at old) rest at long, take-append-le more part (post_of at room old) fits) refl
 
-pub returns-then-is_some-clause-bytes : goal.returns-then-is_some-clause-bytes
-returns-then-is_some-clause-bytes g c =
-    let read = c.read_more-next.ensures in
-    joined _ _ _ _ _ c.loop-done.buffer _ read.filled.more read.front c.loop-done.invariant.bytes read.bytes
-
-pub loop-done-preserved : goal.loop-done-preserved
-loop-done-preserved g c =
-    let read = c.read_more-next.ensures in
+pub loop-read-preserved : goal.loop-read-preserved
+loop-read-preserved g c =
+    let at = c.loop-read.read in
+    let old = c.loop-read.buffer in
+    let part = c.read.new.buf in
+    let more = c.in-Ok.ensures.bytes.0 in
+    let fits = c.in-Ok.ensures.bound.0 in
+    let same = front at (length old - at) c.in-Ok.more old part (omega arith) fits in
     record {
-      within = read.filled.inside;
+      within = search rules;
       kept = search rules;
-      bytes = joined _ _ _ _ _ c.loop-done.buffer _ read.filled.more read.front c.loop-done.invariant.bytes read.bytes;
+      bytes = subst (Consumes _ _) (sym same) (Consumes-trans _ _ _ _ _ c.loop-read.invariant.bytes more);
     }

@@ -1,15 +1,11 @@
--- The slacks are placed one after the other: before each turn the first `i` of them are.
-use Rattle.std.proofs.Common.{◌-◌, ◌≤◌, take, length}
-use Rattle.text.specs.Printing.{Placed}
+-- The slacks are put one after the other: before each turn the first `i` places hold the first `i` of them, the others what they had.
+use Rattle.std.proofs.Common.{◌≡◌, ◌≤◌, length}
+use Rattle.std.proofs.Math.Seq.{paste}
 use Rattle.verdict.specs.Checks.{slack_numbers}
 use Rattle.desk.proofs.put_slacks.Given as goal
 
 abbrev pub invariant-loop-i : goal.invariant-loop-i
 invariant-loop-i l = record {
-  within : l.i ≤ l.count;
-  room : l.count ≤ length l.initial.places;
-  placed : Placed l.initial.places 0 (take l.i (slack_numbers l.slacks)) l.places l.i;
+  room : length l.slacks ≤ length l.initial.places;
+  put : l.places ≡ paste l.initial.places 0 (slack_numbers l.slacks) l.i;
 }
-
-abbrev pub decreases-loop-i : goal.decreases-loop-i
-decreases-loop-i l = l.count - l.i

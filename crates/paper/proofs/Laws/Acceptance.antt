@@ -12,8 +12,8 @@ use Rattle.paper.specs.Board.{Task, Board, no_task, read_board}
 use Rattle.paper.specs.Certificate.{S, own, covered, first_uncovered, demand, Outcome, slack, broken, judge, Verdict, accepted, refused, with_slack, followed_by, walk, rising, unless_rising, judged}
 use Rattle.paper.specs.Accepted.{Covered, Passes, Accepted, slack_of, Slacks, ReadsAs}
 use Rattle.paper.specs.Check.{checked_as, check_read, check}
-use Rattle.paper.specs.declared.Answer.{Answer}
-use Rattle.paper.specs.declared.Answer.TheVariants.{Done}
+use Rattle.paper.specs.Answers.{Done}
+use Rattle.paper.specs.declared.Refusal.{Refusal}
 use Rattle.paper.specs.Laws.Acceptance.{slacks_from}
 
 -- columns
@@ -45,7 +45,7 @@ module _ (speeds : List ℕ) (above : List Task) (k : Task) where
   passes x =
       let P : Outcome → Type 0 = λ o. o ≡ slack x → Passes speeds above k in
       let M = min (length speeds) (length above) in
-      let no : (a : Answer) → P (broken a) = λ a e. let z : ◌≡◌ {A = ℕ} 0 1 = cc in absurd (omega arith) in
+      let no : (a : Refusal) → P (broken a) = λ a e. let z : ◌≡◌ {A = ℕ} 0 1 = cc in absurd (omega arith) in
       on_ltb P k.t k.d _ _ (λ _. no _)
       (λ d.
       on_ltb P k.d k.r _ _ (λ _. no _)
@@ -62,22 +62,6 @@ module _ (speeds : List ℕ) (above : List Task) (k : Task) where
       let M = min (length speeds) (length above) in
       let f : first_uncovered speeds k 0 (suc M) ≡ suc M = none_uncovered speeds k 0 (suc M) (λ c _ l. p.covers c (omega arith)) ∙ omega arith in
       rw (le-ltb k.t k.d p.d_in, le-ltb k.d k.r p.r_in, f, lt-leb (suc M) M (omega arith), lt-ltb (demand speeds above k) (k.q * k.r) p.holds)
-
-  -- no broken rule is told as `Done`
-  pub judge_refuses : (a : Answer) → judge speeds above k ≡ broken a → a ≡ Done → ⊥
-  unfolding judge
-  judge_refuses a =
-      let P : Outcome → Type 0 = λ o. o ≡ broken a → a ≡ Done → ⊥ in
-      let M = min (length speeds) (length above) in
-      on_ltb P k.t k.d _ _ (λ _ e h. let z : ◌≡◌ {A = ℕ} 0 1 = cc in omega arith)
-      (λ _.
-      on_ltb P k.d k.r _ _ (λ _ e h. let z : ◌≡◌ {A = ℕ} 0 1 = cc in omega arith)
-      (λ _.
-      on_leb P (first_uncovered speeds k 0 (suc M)) M _ _ (λ _ e h. let z : ◌≡◌ {A = ℕ} 0 1 = cc in omega arith)
-      (λ _.
-      on_ltb P (demand speeds above k) (k.q * k.r) _ _
-      (λ _ e h. let z : ◌≡◌ {A = ℕ} 0 1 = cc in omega arith)
-      (λ _ e h. let z : ◌≡◌ {A = ℕ} 0 1 = cc in omega arith))))
 
 -- all tasks
 
@@ -125,19 +109,6 @@ unfolding slacks_from
 slacks_each speeds above [] i l = absurd (omega arith)
 slacks_each speeds above (k ∷ below) zero l = rw append-nil
 slacks_each speeds above (k ∷ below) (suc i) l = rw append_assoc at (slacks_each speeds (above ++ (k ∷ [])) below i (omega arith))
-
--- no refusal of the walk is told as `Done`
-pub walk_refuses : (speeds : List ℕ) (above below : List Task) (a : Answer) → walk speeds above below ≡ refused a → a ≡ Done → ⊥
-unfolding walk followed_by with_slack
-walk_refuses speeds above [] a h = let z : ◌≡◌ {A = ℕ} 0 1 = cc in absurd (omega arith)
-walk_refuses speeds above (k ∷ below) a h =
-    one (judge speeds above k) refl (walk speeds (above ++ (k ∷ [])) below) (walk_refuses speeds (above ++ (k ∷ [])) below a) h
-  where
-    one : (o : Outcome) → judge speeds above k ≡ o → (later : Verdict) → (later ≡ refused a → a ≡ Done → ⊥)
-        → followed_by o later ≡ refused a → a ≡ Done → ⊥
-    one (broken a') i later f h = judge_refuses speeds above k a (i ∙ cc)
-    one (slack x) i (refused a') f h = f h
-    one (slack x) i (accepted xs) f h = let z : ◌≡◌ {A = ℕ} 0 1 = cc in absurd (omega arith)
 
 -- speeds
 
@@ -190,15 +161,6 @@ accepted_slacks b slacks h =
     let e : slacks ≡ slacks_from b.speeds [] b.tasks = cc (passes_accepted b (accepted_passes b slacks h)) in
     rw e (slacks_of b)
 
--- no refusal of a board is told as `Done`
-pub judged_refuses : (b : Board) (a : Answer) → judged b ≡ refused a → a ≡ Done → ⊥
-unfolding judged unless_rising
-judged_refuses b a = order (rising 1 b.speeds)
-  where
-    order : (p : ℕ) → unless_rising p (walk b.speeds [] b.tasks) ≡ refused a → a ≡ Done → ⊥
-    order zero h = walk_refuses b.speeds [] b.tasks a h
-    order (suc p) h = λ i. let z : ◌≡◌ {A = ℕ} 0 1 = cc in omega arith
-
 -- from bytes
 
 -- the check answers `Done` only to the text of a board that obeys every rule
@@ -208,7 +170,7 @@ done_accepted text = go (whole read_board text) refl
   where
     verdict : (b : Board) (v : Verdict) → judged b ≡ v → (checked_as v).answer ≡ Done → Accepted b
     verdict b (accepted slacks) i h = accepted_passes b slacks i
-    verdict b (refused a) i h = absurd (judged_refuses b a i h)
+    verdict b (refused a) i h = let z : ◌≡◌ {A = ℕ} 0 1 = cc in absurd (omega arith)
 
     go : (r : Read Board) → whole read_board text ≡ r → (check_read r).answer ≡ Done → (b : Board) × ReadsAs text b × Accepted b
     go (good b rest n) i h = (b, record { rest = rest; lines = n; reads = i }, verdict b (judged b) refl h)

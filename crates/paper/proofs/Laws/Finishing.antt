@@ -1,6 +1,6 @@
 -- When a run answers `Done`, and when 9: what the refusals before the ticks ask for; and where the responses stand.
 -- Assumes nothing.
-use Rattle.std.specs.Prelude.{◌≡◌, refl, cond, List, [], ◌∷◌, ℕ, zero, suc, ◌≤◌, ◌<◌, length, get_or, drop, ltb}
+use Rattle.std.specs.Prelude.{◌≡◌, refl, cond, List, [], ◌∷◌, ℕ, zero, suc, ◌≤◌, ◌<◌, length, get_or, drop, ltb, Err}
 use Rattle.std.proofs.Common.{◌∙◌, arith, take_at}
 use borrow.Author.Tests.{le-ltb}
 use Rattle.paper.proofs.Laws.Tests.{on_ltb}
@@ -10,7 +10,8 @@ use Rattle.paper.specs.Certificate.{rising}
 use Rattle.paper.specs.Releases.{Releases, Legality, legal, illegal, legality}
 use Rattle.paper.specs.Scheduler.{State, Ran, ran, overran, after}
 use Rattle.paper.specs.Run.{Finished, refusal, over, finished, unless_illegal, late, unless_late, unless_faster, run_board, Both, read_both, run_read, run}
-use Rattle.paper.specs.declared.Answer.TheVariants.{Done, Overrun, FewPlaces}
+use Rattle.paper.specs.Answers.{Done}
+use Rattle.paper.specs.declared.Refusal.TheVariants.{Overrun, FewPlaces}
 use Rattle.paper.specs.Laws.Finishing.{First}
 
 -- no task has d above t
@@ -38,12 +39,12 @@ module _ (b : Board) (l : Releases) (places : List ℕ) where
     pub legal : legality b l.list ≡ legal
     pub ends : after b l.list l.ticks ≡ overran p a
 
-  pub overruns : (p a : ℕ) → (run_board b l places).answer ≡ Overrun p a → Overruns p a
+  pub overruns : (p a : ℕ) → (run_board b l places).answer ≡ Err (Overrun p a) → Overruns p a
   unfolding run_board unless_faster unless_late unless_illegal finished
   overruns p a = faster (rising 1 b.speeds)
     where
       P : Finished → Type 0
-      P y = y.answer ≡ Overrun p a → Overruns p a
+      P y = y.answer ≡ Err (Overrun p a) → Overruns p a
 
       ends : legality b l.list ≡ legal → (out : Ran) → after b l.list l.ticks ≡ out → P (finished places (length l.list) out)
       ends g (ran x) e h = let z : ◌≡◌ {A = ℕ} 0 1 = cc in absurd (omega arith)

@@ -9,8 +9,8 @@ use native.Mathlib.Omega.{arith}
 use borrow.Author.Tests.{le-leb, lt-leb, lt-ltb, le-ltb}
 use Rattle.paper.specs.Board.{Task}
 use Rattle.paper.specs.Certificate.{covered, first_uncovered, demand, slack, broken, judge, Verdict, accepted, refused, with_slack, followed_by, walk}
-use Rattle.paper.specs.declared.Answer.{Answer}
-use Rattle.paper.specs.declared.Answer.TheVariants.{DeadlineAbovePeriod, BoundAboveDeadline, ColumnUncovered, BoundFails}
+use Rattle.paper.specs.declared.Refusal.{Refusal}
+use Rattle.paper.specs.declared.Refusal.TheVariants.{DeadlineAbovePeriod, BoundAboveDeadline, ColumnUncovered, BoundFails}
 use Rattle.paper.specs.Laws.Judging.{uncovered_from, prefixed}
 
 -- columns j to M, M being the last
@@ -84,6 +84,6 @@ module _ (speeds : List ℕ) (passed : List ℕ) (above : List Task) (k : Task) 
   unfolding walk followed_by
   walk_on x e = rw e (prefixed_more passed x (walk speeds (above ++ (k ∷ [])) below))
 
-  pub walk_breaks : (a : Answer) → judge speeds above k ≡ broken a → prefixed passed (walk speeds above (k ∷ below)) ≡ refused a
+  pub walk_breaks : (a : Refusal) → judge speeds above k ≡ broken a → prefixed passed (walk speeds above (k ∷ below)) ≡ refused a
   unfolding walk followed_by prefixed
   walk_breaks a e = rw e

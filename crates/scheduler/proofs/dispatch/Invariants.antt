@@ -1,5 +1,5 @@
 -- The invariant of `scheduler::dispatch`: the paper's table is what the walk still has to fill from here on, whatever the place.
-use Rattle.std.proofs.Common.{◌-◌, ◌≡◌, ◌≤◌, length}
+use Rattle.std.proofs.Common.{◌≡◌, ◌≤◌}
 use Rattle.paper.specs.Scheduler.{table}
 use Rattle.paper.specs.Laws.Seats.{seats_from}
 use Rattle.scheduler.specs.State.{units_left}
@@ -7,11 +7,6 @@ use Rattle.scheduler.proofs.dispatch.Given as goal
 
 abbrev pub invariant-loop-i : goal.invariant-loop-i
 invariant-loop-i l = record {
-  within : l.i ≤ 96;
   walk : seats_from l.procs (units_left l.left) l.table l.seated l.i ≡ table l.procs (units_left l.left);
   few : l.seated ≤ l.procs;
-  eight : length l.table ≡ 8;
 }
-
-abbrev pub decreases-loop-i : goal.decreases-loop-i
-decreases-loop-i l = 96 - l.i

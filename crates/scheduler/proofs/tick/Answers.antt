@@ -1,61 +1,31 @@
 -- `scheduler::tick` meets its contract: the releases, then the seats, and each seat's work is the paper's.
-use Rattle.std.proofs.Common.{rules, arith, ◌≡◌, ◌-◌, ◌≤◌, ◌∙◌, ap, length, ℕ, List, get_or}
-use Rattle.quantity.specs.Quantity.{units, speed, less}
-use Rattle.scheduler.specs.Laws.{length_mapped}
-use Rattle.scheduler.proofs.Working.{left_after, with_table, begins, idle, taken_as, ends, worked_by, seat_within}
-use Rattle.scheduler.proofs.Ticking.{ticked-stopped, ticked_going}
+use Rattle.std.proofs.Common.{rules, arith, ◌≡◌, ◌≤◌, length, length-append, length-drop, drop, ℕ, List}
+use Rattle.std.proofs.lemmas.List.{take_at, drop_at}
+use Rattle.std.proofs.lemmas.Result.{err_from_is_err_and}
+use Rattle.scheduler.proofs.Ticking.{seat_within, ticked-stopped, ticked_going}
 use Rattle.scheduler.proofs.tick.Goals as goal
-use Rattle.scheduler.proofs.tick.Goals.{then-seat-ne0, else-seat-ne0}
 
-pub loop-i-init : goal.loop-i-init
-loop-i-init c =
+pub returns-in_err-release_due : goal.returns-in_err-release_due
+returns-in_err-release_due c =
     let s = c.args in
-    let released = c.release_due-run.result in
-    let all : length released.left ≡ 96 = search (rules, length_mapped) in
-    begins s.procs s.speeds c.dispatch-seats.result s.count s.time.0 (with_table released c.dispatch-seats.result) s.places.now
-    (seat_within s.procs released.left c.dispatch-seats.result all c.dispatch-seats.ensures)
-    all (search (rules, length_mapped)) (search rules)
+    let p = err_from_is_err_and c.from_residual.result c.from_residual.ensures.1 in
+    rw (p.1, p.2)
+    (ticked-stopped s.speeds.now s.releases.now s.time.0 s.start s.places.now c.in_err-release_due.field-0.0 c.release_due.new.run
+    c.in_err-release_due.ensures)
 
-pub loop-i-preserved : goal.loop-i-preserved
-loop-i-preserved c =
-    let s = c.args in
-    let l = c.loop-i in
-    let released = c.release_due-run.result in
-    let seats : List ℕ = c.dispatch-seats.result in
-    let all : length s.speeds ≡ 8 = search rules in
-    let eight : length seats ≡ 8 = search rules in
-    let most : s.procs ≤ 8 = c.requires.platform in
-    elim c.if-seat-ne0.branch [
-      | then-seat-ne0 w ↦
-          let less_done : w.less-left.result ≡ left_after l.run (get_or seats l.i 0 - 1) (get_or s.speeds l.i (speed 0)) =
-          w.less-left.ensures ∙ ap (less (get_or l.run.left (get_or seats l.i 0 - 1) (units 0))) w.over-done.ensures in
-          rw (w.places-is, w.run-is)
-          (taken_as s.procs s.speeds seats s.count s.time.0 (with_table released seats) s.places.now l.run l.places l.i l.invariant
-          (omega arith) (omega arith) eight most _ w.less-left.result less_done w.if-seat-ne0.true w.answer.ensures)
-      | else-seat-ne0 w ↦
-          rw (w.places-is, w.run-is)
-          (idle s.procs s.speeds seats s.count s.time.0 (with_table released seats) s.places.now l.run l.places l.i l.invariant
-          (omega arith) (omega arith) eight most w.if-seat-ne0.false)
-    ]
+pub work-requires-clause-seats : goal.work-requires-clause-seats
+work-requires-clause-seats c =
+    λ i _. seat_within (length c.args.speeds.now) c.release_due.new.run.left c.dispatch-run.result c.dispatch-run.ensures i
 
-pub returns-after-loop-i : goal.returns-after-loop-i
-returns-after-loop-i c =
+pub returns : goal.returns
+returns c =
     let s = c.args in
-    let l = c.loop-i in
-    let made = c.release_due-run in
-    let seats : List ℕ = c.dispatch-seats.result in
-    let eight : length s.speeds ≡ 8 = search rules in
-    let most : s.procs ≤ 8 = c.requires.platform in
-    let all : s.procs ≤ length s.speeds = omega arith in
-    ticked_going s.procs s.speeds s.at.now s.task.now s.units.now s.count s.time.0 s.start s.places.now made.result l.run l.places all
-    made.ensures c.if-not-run.true
-    (worked_by s.procs s.speeds seats s.count s.time.0 made.result s.places.now l.run l.places c.dispatch-seats.ensures
-    (ends s.procs s.speeds seats s.count s.time.0 (with_table made.result seats) s.places.now l.run l.places l.i l.invariant
-    (omega arith) all))
-
-pub returns-else-not-run : goal.returns-else-not-run
-returns-else-not-run c =
-    let s = c.args in
-    let made = c.release_due-run in
-    ticked-stopped s.procs s.speeds s.at.now s.task.now s.units.now s.count s.time.0 s.start s.places.now made.result made.ensures
-    c.if-not-run.false
+    let count : ℕ = length s.releases.now in
+    let rest : List ℕ = drop count s.places.now in
+    let later : List ℕ = c.work.new.responses in
+    let lent : count ≤ length s.places.now = c.requires.standing.lent in
+    let all : length later ≡ count = search rules in
+    ticked_going s.speeds.now s.releases.now s.time.0 s.start s.places.now c.release_due.new.run c.dispatch-run.result c.work.new.run
+    later _ c.in_ok-release_due.ensures c.dispatch-run.ensures c.work.ensures
+    (take_at later rest count all) (drop_at later rest count all)
+    (omega (arith, length-append later rest, length-drop count s.places.now))

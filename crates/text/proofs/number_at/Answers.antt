@@ -1,22 +1,26 @@
 -- A number is the paper's: its first digit decides how many more there may be.
-use Rattle.std.proofs.Common.{drop, sym, ap, ◌∙◌, drop-drop, arith}
-use Rattle.paper.specs.Text.{digits}
-use Rattle.text.proofs.Laws.{number_low, number_high, number_zero, number_more}
+use Rattle.std.proofs.Common.{arith}
+use Rattle.text.proofs.Laws.{number_short, number_low, number_high, number_zero, number_more}
 use Rattle.text.proofs.number_at.Goals as goal
+use Rattle.text.proofs.number_at.Goals.{in_default-via-then-first-lt48, in_default-via-else-first-lt48+else-first-lt58}
 
-pub returns-then-b-lt48 : goal.returns-then-b-lt48
-returns-then-b-lt48 c = sym (number_low (drop c.args.at c.args.s.now) (omega arith))
+pub returns-in_err-first : goal.returns-in_err-first
+returns-in_err-first c = rw c.from_residual.ensures (number_short c.args.rest.now c.in_err-first.ensures.cases)
 
-pub returns-then-b-gt57 : goal.returns-then-b-gt57
-returns-then-b-gt57 c = sym (number_high (drop c.args.at c.args.s.now) (omega arith))
+-- a zero
+pub returns-in-48 : goal.returns-in-48
+returns-in-48 c = rw (number_zero c.in_ok-first.ensures.cases.0 c.in-48.is) c.digits.ensures
 
-pub returns-then-b-eq48 : goal.returns-then-b-eq48
-returns-then-b-eq48 c =
-    let a = c.args in
-    c.more_digits.ensures ∙ ap (digits 0 0) (sym (drop-drop 1 a.at a.s.now)) ∙ sym (number_zero (drop a.at a.s.now) (omega arith))
+-- another digit
+pub returns-in-49-to-57 : goal.returns-in-49-to-57
+returns-in-49-to-57 c =
+    let e = number_more c.in_ok-first.ensures.cases.0 (λ z. omega arith) (omega arith) (omega arith) in
+    rw (e, ← c.from.ensures) c.digits-in-49-to-57.ensures
 
-pub returns : goal.returns
-returns c =
-    let a = c.args in
-    let e = c.byte_at-b.ensures.same in
-    rw (number_more (drop a.at a.s.now) (λ q. c.if-b-eq48.false (e ∙ q)) (omega arith) (omega arith), drop-drop 1 a.at a.s.now, ← e) c.more_digits-2.ensures
+pub returns-in_default : goal.returns-in_default
+returns-in_default c =
+    let e = c.in_ok-first.ensures.cases.0 in
+    elim c.in_default.branch [
+      | in_default-via-then-first-lt48 w ↦ number_low e (omega arith)
+      | in_default-via-else-first-lt48+else-first-lt58 w ↦ number_high e (omega arith)
+    ]

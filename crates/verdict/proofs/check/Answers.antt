@@ -1,31 +1,24 @@
--- The check follows the paper's: a bad line, a rising speed, a task's refusal, or the slacks of all tasks.
+-- The check follows the paper's: a bad line, a rising speed, or what the tasks come to.
 use Rattle.std.proofs.Common.{sym, ◌∙◌}
+use Rattle.std.proofs.lemmas.Result.{err_from_is_err_and}
 use Rattle.board.specs.Back.{read_good, read_bad}
-use Rattle.verdict.specs.Steps.{out_line, out_speed, out_task, all_pass}
+use Rattle.verdict.specs.Steps.{out_line, out_speed, tasks_decide}
 use Rattle.verdict.proofs.check.Goals as goal
 
-pub returns-in_default : goal.returns-in_default
-returns-in_default c = c.refusal.ensures ∙ out_line (read_bad _ c.read_board-read.ensures c.in_default.not-Done)
+pub returns-in_err-board : goal.returns-in_err-board
+returns-in_err-board c =
+    let p = err_from_is_err_and c.from_residual.result c.from_residual.ensures.1 in
+    rw (p.1, p.2) (out_line (read_bad c.args.text.now c.read_board.ensures c.in_err-board.was))
 
-pub rising-processor-requires : goal.rising-processor-requires
-rising-processor-requires c = (read_good _ c.read_board-read.ensures c.in-Done.is).ranged.procs.high
+pub returns-in-Some : goal.returns-in-Some
+returns-in-Some c =
+    let h = read_good c.args.text.now c.read_board.ensures c.in_ok-board.was in
+    out_speed h c.in-Some.processor (sym c.rising.ensures ∙ c.in-Some.is)
 
-pub returns-then-processor-ne0 : goal.returns-then-processor-ne0
-returns-then-processor-ne0 c =
-    let h = read_good _ c.read_board-read.ensures c.in-Done.is in
-    c.refusal-then-processor-ne0.ensures ∙ out_speed h _ c.rising-processor.ensures c.if-processor-ne0.true
-
-pub judge_tasks-judged-requires : goal.judge_tasks-judged-requires
-judge_tasks-judged-requires c = (read_good _ c.read_board-read.ensures c.in-Done.is).ranged
-
-pub returns-in_default-judging : goal.returns-in_default-judging
-returns-in_default-judging c =
-    let h = read_good _ c.read_board-read.ensures c.in-Done.is in
-    let falls = sym c.if-processor-ne0.false ∙ c.rising-processor.ensures in
-    c.refusal-in_default-judging.ensures ∙ out_task h falls c.judge_tasks-judged.ensures c.in_default-judging.not-Done
+pub judge_tasks-requires : goal.judge_tasks-requires
+judge_tasks-requires c = record { ranged = (read_good c.args.text.now c.read_board.ensures c.in_ok-board.was).within }
 
 pub returns : goal.returns
 returns c =
-    let h = read_good _ c.read_board-read.ensures c.in-Done.is in
-    let e = sym c.if-processor-ne0.false ∙ c.rising-processor.ensures in
-    all_pass h e c.judge_tasks-judged.ensures c.in-Done-judging.is
+    let h = read_good c.args.text.now c.read_board.ensures c.in_ok-board.was in
+    tasks_decide h (sym c.rising.ensures ∙ c.in_default.is) c.judge_tasks.ensures

@@ -6,4 +6,6 @@ use Rattle.certificate.proofs.bound.demand.Goals as goal
 
 pub returns : goal.returns
 unfolding need
-returns c speeds = rw (c.plus.ensures, c.times-2.ensures, c.less.ensures, c.times.ensures) (ap units (omega arith))
+returns c speeds =
+    rw (c.plus.ensures, c.times-2.ensures, c.less.ensures, c.times.ensures, c.from.ensures, c.from-2.ensures)
+    (ap units (omega arith))

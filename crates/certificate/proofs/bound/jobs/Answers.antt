@@ -1,8 +1,7 @@
 -- The job count is a quotient rounded up, and none of its sums wraps.
-use Rattle.std.proofs.Common.{refl}
 use Rattle.paper.specs.Basics.{rounded_up}
 use Rattle.certificate.proofs.bound.jobs.Goals as goal
 
 pub returns : goal.returns
 unfolding rounded_up
-returns c = refl
+returns c = c.from.ensures

@@ -1,43 +1,46 @@
--- `legal::legality` gives the paper's judgement: each test is one of the paper's, and a release that passes them all is one more without a fault.
-use Rattle.std.proofs.Common.{sym, ◌∙◌, ltb-true, ltb-false}
-use Rattle.releases.specs.Judging.{judging_first, judging_next, judging_last, no_task_lem, past_last, not_later, too_many, too_soon}
+-- `legality` gives the paper's judgement: what is found of each release is what the paper finds, and one without a fault is one more.
+use Rattle.std.proofs.Common.{refl, false, ◌≡◌, ◌+◌, true, Result, Ok, Err, is_ok, ◌<◌, length, arith, rules}
+use Rattle.std.proofs.lemmas.Result.{err_from_is_err_and, IfOk-at_ok}
+use Rattle.paper.specs.declared.Fault.{Fault}
+use Rattle.paper.specs.declared.Refusal.TheVariants.{IllegalRelease}
+use Rattle.releases.specs.Packed.{unpacked_list, releases_of}
+use Rattle.releases.specs.Places.{releases_count, release-at}
+use Rattle.releases.specs.Judging.{judging_first, judging_last}
+use Rattle.releases.proofs.Found.{found_next, found_bad}
 use Rattle.releases.proofs.legal.legality.Goals as goal
 
+no_fault : (a : Result Unit Fault) → true ≡ is_ok a → a ≡ Ok tt
+no_fault (Ok x) e = refl
+no_fault (Err fault) e = cc
+
+a_fault : (a : Result Unit Fault) → false ≡ is_ok a → (fault : Fault) × (a ≡ Err fault)
+a_fault (Ok x) e = cc
+a_fault (Err fault) e = (fault, refl)
+
 pub loop-p-init : goal.loop-p-init
-loop-p-init c = judging_first c.args.board c.args.list
+loop-p-init c = rw c.empty-past.ensures (judging_first _ _)
 
-pub returns-then-task-eq0 : goal.returns-then-task-eq0
-returns-then-task-eq0 c = no_task_lem _ _ _ _ _ _ c.loop-p.invariant c.loop-p-test.true c.if-task-eq0.true
-
-pub returns-then-board-task : goal.returns-then-board-task
-returns-then-board-task c = past_last _ _ _ _ _ _ c.loop-p.invariant c.loop-p-test.true c.if-board-task.true
-
-pub returns-then-not-later : goal.returns-then-not-later
-returns-then-not-later c =
-    not_later _ _ _ _ _ _ c.loop-p.invariant c.loop-p-test.true c.if-task-eq0.false c.if-board-task.false c.requires.tasks_bound
-    (sym c.later.ensures ∙ c.if-not-later.true)
-
-pub returns-then-exceeds : goal.returns-then-exceeds
-returns-then-exceeds c =
-    too_many _ _ _ _ _ _ c.loop-p.invariant c.loop-p-test.true c.if-task-eq0.false c.if-board-task.false c.requires.tasks_bound
-    (sym c.later.ensures ∙ c.if-not-later.false)
-    (ltb-true _ _ (sym c.exceeds.ensures ∙ c.if-exceeds.true))
-
-pub returns-then-at-free : goal.returns-then-at-free
-returns-then-at-free c =
-    too_soon _ _ _ _ _ _ c.loop-p.invariant c.loop-p-test.true c.if-task-eq0.false c.if-board-task.false c.requires.tasks_bound
-    (sym c.later.ensures ∙ c.if-not-later.false)
-    (ltb-false _ _ (sym c.exceeds.ensures ∙ c.if-exceeds.false))
-    c.if-at-free.true
+pub returns-in_err-map_err : goal.returns-in_err-map_err
+unfolding unpacked_list
+returns-in_err-map_err c =
+    let items = c.deref-release-items.result.now in
+    let more : c.loop-p.p < length (releases_of items) = omega (arith, releases_count items) in
+    let fault = a_fault _ c.in_err-map_err.ensures.variant in
+    let told : c.in_err-map_err.field-0.0 ≡ IllegalRelease (c.loop-p.p + 1) fault.0 = let w = fault.1 in search rules in
+    let exit = err_from_is_err_and c.from_residual.result c.from_residual.ensures.1 in
+    rw (exit.1, exit.2, told, ← c.deref-release-items.ensures.0)
+    (found_bad _ _ _ _ c.loop-p.invariant more _ (release-at items _) _ c.admit.ensures.fault c.admit.ensures.place fault.0 fault.1)
 
 pub loop-p-preserved : goal.loop-p-preserved
 loop-p-preserved c =
-    judging_next _ _ _ _ _ _ c.loop-p.invariant c.loop-p-test.true c.if-task-eq0.false c.if-board-task.false c.requires.tasks_bound
-    (sym c.later.ensures ∙ c.if-not-later.false)
-    (ltb-false _ _ (sym c.exceeds.ensures ∙ c.if-exceeds.false))
-    c.if-at-free.false
-    _
-    c.spaced.ensures
+    let items = c.deref-release-items.result.now in
+    let more : c.loop-p.p < length (releases_of items) = omega (arith, releases_count items) in
+    let ok = no_fault _ c.in_ok-map_err.ensures.variant in
+    rw (IfOk-at_ok (λ _. _) ok c.admit.ensures.after)
+    (found_next _ _ _ _ c.loop-p.invariant more _ (release-at items _) _ c.admit.ensures.fault c.admit.ensures.place ok)
 
 pub returns : goal.returns
-returns c = judging_last _ _ _ _ _ _ c.loop-p.invariant c.loop-p-test.false
+unfolding unpacked_list
+returns c =
+    rw (← c.deref-release-items.ensures.0)
+    (judging_last _ _ _ _ c.loop-p.invariant (omega (arith, releases_count c.deref-release-items.result.now)))

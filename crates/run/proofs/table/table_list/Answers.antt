@@ -1,25 +1,21 @@
 -- `table::table_list` shows the paper's table of a legal list: the ticks up to the one that is asked for, in places of its own.
-use Rattle.std.proofs.Common.{rules, ◌≡◌, length}
-use Rattle.board.specs.Rules.{length_mapped}
-use Rattle.run.specs.Finishing.{nameable}
-use Rattle.run.specs.Showing.{ready_to, shows_through, shows_overran}
+use Rattle.std.proofs.Common.{◌≡◌, sym, ◌∙◌, ltb, rules}
+use Rattle.std.proofs.lemmas.Bool.{ltb-true, ltb-false}
+use Rattle.run.specs.Showing.{ready_to, shows_through, shows_idle, shows_overran}
 use Rattle.run.proofs.table.table_list.Goals as goal
 
-pub named-units-requires : goal.named-units-requires
-named-units-requires c = nameable _ _ _ c.requires
+pub ticks-requires : goal.ticks-requires
+ticks-requires c = ready_to _ _ _ c.requires _ _ c.ticks_to.ensures
 
-pub ticks-last-requires : goal.ticks-last-requires
-ticks-last-requires c = ready_to _ _ c.requires _ c.named-units.ensures _ (search rules) (search rules) (search rules) _ c.ticks_to-end.ensures
+pub returns-in-Ok : goal.returns-in-Ok
+returns-in-Ok c = λ b s lent.
+    let is : c.lt.result ≡ ltb c.args.tick.0 c.args.horizon.0 = search rules in
+    shows_through _ _ _ _ _ c.ticks_to.ensures _ b s lent _ c.in-Ok.ensures (ltb-true _ _ (sym is ∙ c.if-lt.true))
 
-pub returns-in-Through : goal.returns-in-Through
-returns-in-Through c =
-    let speeds : length c.args.board.speeds ≡ 8 = search (rules, length_mapped) in
-    rw c.shown.ensures
-    (shows_through _ _ c.requires _ c.named-units.ensures _ _ c.ticks_to-end.ensures _ _ c.ticks-last.ensures.went c.ticks-last.ensures.last_seats
-    _ speeds c.in-Through.is)
+pub returns-in-Ok-2 : goal.returns-in-Ok-2
+returns-in-Ok-2 c = λ b s lent.
+    let is : c.lt.result ≡ ltb c.args.tick.0 c.args.horizon.0 = search rules in
+    shows_idle _ _ _ _ _ c.ticks_to.ensures _ b s lent _ c.in-Ok-2.ensures (ltb-false _ _ (sym is ∙ c.if-lt.false))
 
-pub returns-in-Overran : goal.returns-in-Overran
-returns-in-Overran c =
-    rw c.kept.ensures
-    (shows_overran _ _ c.requires _ c.named-units.ensures _ _ c.ticks_to-end.ensures _ _ c.ticks-last.ensures.went c.ticks-last.ensures.last_seats
-    _ _ _ c.in-Overran.is)
+pub returns-in-Err : goal.returns-in-Err
+returns-in-Err c = λ b s lent. shows_overran _ _ _ _ _ c.ticks_to.ensures _ b s lent _ c.in-Err.ensures

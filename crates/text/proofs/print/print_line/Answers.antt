@@ -1,25 +1,34 @@
--- A line is its key, its digits and LF, placed one after the other.
-use Rattle.std.proofs.Common.{◌<◌, length, arith}
-use Rattle.paper.specs.Basics.{decimal}
-use Rattle.paper.proofs.Laws.Decimal.{decimal-length}
-use Rattle.text.specs.Placing.{placed_one, placed_then, placed_length}
+-- A line is its key, its digits and LF, appended one after the other; the digits that the library gives are the paper's.
+use Rattle.std.proofs.Common.{◌≡◌, ℕ, ◌^◌, ◌<◌, ◌++◌, length, sym, ap, ◌∙◌, rules, arith, append_assoc, length-append, lt-ltb, le-ltb}
+use Rattle.std.specs.Fmt as std
+use Rattle.std.proofs.lemmas.Fmt.{AppendsLastDigit, decimal_from_appends, length-decimal-le}
+use Rattle.paper.specs.Basics.{decimal, decimal_in}
+use Rattle.text.specs.Printing.{line_bytes}
+use Rattle.text.specs.Placing.{line_short}
 use Rattle.text.proofs.print.print_line.Goals as goal
 
--- the digits end before the last byte of the room
-pub bounds-out-end : goal.bounds-out-end
-bounds-out-end c =
-    let digits = c.put_digits-end.ensures in
-    let key = c.put_key-digits.ensures in
-    omega (arith, placed_length digits, digits.ends, placed_length key, key.ends, decimal-length 20 c.args.value)
+appends : AppendsLastDigit decimal_in
+unfolding decimal_in
+appends = record {
+  one = λ most n h. rw (lt-ltb n 10 h);
+  more = λ most n h. rw (le-ltb n 10 h);
+}
+
+same_digits : (n : ℕ) → n < 2 ^ 64 → decimal n ≡ std.decimal n
+unfolding decimal
+same_digits n h = decimal_from_appends decimal_in appends 20 n h (length-decimal-le 20 n (omega arith) (omega arith) h)
 
 pub returns : goal.returns
-unfolding decimal
-returns c =
-    let digits = c.put_digits-end.ensures in
-    let key = c.put_key-digits.ensures in
-    let room : c.put_digits-end.result < length c.put_digits-end.new.out
-    = omega (arith, placed_length digits, digits.ends, placed_length key, key.ends, decimal-length 20 c.args.value) in
+returns g c =
+    let few : c.args.value < 2 ^ 64 = search rules in
+    let out = c.args.out.now.items in
+    let key = rw c.unwrap.ensures at c.try_extend_from_slice.ensures.ok in
+    let more = rw c.unwrap-2.ensures at c.try_extend_from_slice-2.ensures.ok in
+    let digits = c.as_bytes.ensures.value ∙ c.format.ensures.text ∙ sym (same_digits c.args.value few) in
+    let same : c.push.new.self.items ≡ out ++ line_bytes c.args.key.now c.args.value
+    = c.push.ensures.items ∙ rw (more, key, digits) (simp append_assoc) in
+    let long = ap length same ∙ length-append out (line_bytes c.args.key.now c.args.value) in
     record {
-      printed = λ h. placed_one (placed_then key digits) 10 (omega (arith, placed_length digits, placed_length key));
+      printed = λ h. record { same = same; fits = omega (arith, long, line_short c.args.key.now c.args.value) };
       none = λ h. absurd (omega arith);
     }

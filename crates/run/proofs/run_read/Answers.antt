@@ -1,0 +1,25 @@
+-- `run_read` is the paper's run of the text that was read: what it held is prepared and run, and a refusal is given as it is.
+use Rattle.std.proofs.Common.{refl}
+use Rattle.std.proofs.lemmas.Result.{err_from_is_err_and}
+use Rattle.run.specs.Whole.{bad_line, bad_start, prepared, runs, meets_bad, meets_good}
+use Rattle.run.proofs.run_read.Goals as goal
+
+pub returns-in_err-both : goal.returns-in_err-both
+returns-in_err-both c =
+    let p = err_from_is_err_and c.from_residual.result c.from_residual.ensures.1 in
+    λ bytes e. rw (p.1, p.2) (meets_bad _ _ _ (bad_line _ _ e c.in_err-both.was) _ refl)
+
+pub returns-in_err-prepare : goal.returns-in_err-prepare
+returns-in_err-prepare c =
+    let p = err_from_is_err_and c.from_residual-in_err-prepare.result c.from_residual-in_err-prepare.ensures.1 in
+    λ bytes e. rw (p.1, p.2) (meets_bad _ _ _ (bad_start _ _ e c.in_ok-both.was _ c.in_err-prepare.ensures) _ refl)
+
+pub run_list-requires : goal.run_list-requires
+run_list-requires c =
+    let h = prepared c.requires.0 _ c.requires.1 c.in_ok-both.was _ c.in_ok-prepare.ensures in
+    runs _ _ _ h _ c.deref.ensures.0 _ c.deref-2.ensures.0
+
+pub returns : goal.returns
+returns c = λ bytes e.
+    let h = prepared bytes _ e c.in_ok-both.was _ c.in_ok-prepare.ensures in
+    meets_good _ _ _ h _ c.deref.ensures.0 _ c.deref-2.ensures.0 _ refl _ _ c.run_list.ensures

@@ -1,5 +1,0 @@
--- The digits are placed as the definition gives them: those before the last by the call, then the last.
-use Rattle.text.proofs.print.+put_digits.Given as goal
-
-abbrev pub decreases-put_digits : goal.decreases-put_digits
-decreases-put_digits l = l.value
