@@ -13,7 +13,7 @@ use std::io::{Read, Write};
 use text::keys::SLACK;
 use text::print::{print_all, print_numbers};
 
-// What is printed for a board.
+// What is printed for a board. The run has a report of its own in `boardrun`; what the two share is in `text::print`.
 fn report(board: &[u8]) -> ArrayVec<u8, 4096>
     ensures { result.items ≡ check_prints board.now }
 {
@@ -37,6 +37,7 @@ fn answer<R: Read, W: Write>(from: &mut R, to: &mut W) -> Result<(), Lost>
     console::answer(from, to, report)
 }
 
+// Each program names itself on standard error; what the two share is in `console`.
 fn main(rt: HostRuntime) {
     let mut from = OrClosed(rt.stdin());
     let mut to = rt.stdout();

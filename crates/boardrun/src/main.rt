@@ -13,7 +13,8 @@ use std::io::{Read, Write};
 use text::keys::RESPONSE;
 use text::print::{print_all, print_numbers};
 
-// What is printed for a board and a list. A place is lent for each release that a list can have.
+// What is printed for a board and a list. A place is lent for each release that a list can have. The check has a report of its own
+// in `boardcheck`; what the two share is in `text::print`.
 fn report(both: &[u8]) -> ArrayVec<u8, 32768>
     ensures { result.items ≡ run_prints both.now }
 {
@@ -38,6 +39,7 @@ fn answer<R: Read, W: Write>(from: &mut R, to: &mut W) -> Result<(), Lost>
     console::answer(from, to, report)
 }
 
+// Each program names itself on standard error; what the two share is in `console`.
 fn main(rt: HostRuntime) {
     let mut from = OrClosed(rt.stdin());
     let mut to = rt.stdout();

@@ -105,7 +105,7 @@ fn work(run: &mut RunState, speeds: &[Speed], responses: &mut [u32], time: Ticks
     requires horizon { time.0 ≤ 1000000 }
     ensures { Worked speeds.now time.0 run.old responses.old run.new responses.new }
 {
-    // A copy of the eight seats: borrowed from the state they would keep it from being written, and the proof from seeing it whole.
+    // The eight seats are copied: while they are borrowed from the state, the proof does not see the state that is written whole.
     let seats = run.table;
     for (speed, seat) in speeds.iter().zip(seats.iter()) {
         let Some(place) = seat.checked_sub(1) else {
