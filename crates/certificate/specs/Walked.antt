@@ -10,7 +10,7 @@ use Rattle.std.proofs.Math.Nat.{mul-le-mul, le_trans}
 use Rattle.std.proofs.Math.Numerals.{add-one}
 use native.Mathlib.Omega.{arith}
 use borrow.Author.Count.{below_more}
-use Rattle.arrayvec.specs.ArrayVec.{ArrayVec}
+use Rattle.series.specs.Series.{Series}
 use Rattle.paper.specs.Board as paper
 use Rattle.paper.specs.Certificate.{S, fastest, covers, covered, charge_at, charge, count_in, jobs, load, demand, need}
 use Rattle.paper.specs.Certificate.{slack, broken, judge, accepted, walk}
@@ -39,7 +39,7 @@ use Rattle.certificate.specs.Verdicts.{packed_verdict}
 
 -- what a walk comes to in the code
 abbrev pub Judged : Type 0
-Judged = Result (ArrayVec Units) Refusal
+Judged = Result (Series Units) Refusal
 
 module _ (b : Board) where
   -- the paper's speeds

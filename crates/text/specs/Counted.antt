@@ -3,7 +3,7 @@ use Rattle.std.specs.Prelude.{◌≡◌, refl, ℕ, zero, suc, List, ◌∷◌, 
 use Rattle.std.proofs.Common.{sym, ap, subst, ◌∙◌}
 use Rattle.paper.specs.Text.{Read, good, Reader, and_then, give, times}
 use Rattle.paper.proofs.Laws.Reading.{then_assoc, then_ap}
-use Rattle.arrayvec.specs.ArrayVec.{ArrayVec}
+use Rattle.series.specs.Series.{Series}
 use Rattle.text.specs.declared.BadLine.{BadLine}
 use Rattle.text.specs.Lines.{held}
 use Rattle.text.specs.Many.{array_of}
@@ -23,7 +23,7 @@ module _ {A C : Type 0} (make : A → C) (m : Reader A) where
       ∙ sym (then_assoc (m s k) _ _)
 
   -- the values, as the code holds them
-  abbrev pub all_of : List A → ArrayVec C
+  abbrev pub all_of : List A → Series C
   all_of values = array_of (map make values)
 
   module _ (n : ℕ) (s : List ℕ) (k : ℕ) where
@@ -31,7 +31,7 @@ module _ {A C : Type 0} (make : A → C) (m : Reader A) where
     unfolding and_then
     all_made = ap (λ (r : Read (List C)). and_then r (λ xs. give (array_of xs))) (times_held n s k) ∙ then_assoc (times n m s k) _ _
 
-    pub counted : {items : ArrayVec C} {rest : List ℕ} {next : ℕ} → good items rest next ≡ held array_of (times n (held make m)) s k
+    pub counted : {items : Series C} {rest : List ℕ} {next : ℕ} → good items rest next ≡ held array_of (times n (held make m)) s k
         → Made all_of (times n m s k) items rest next
     counted e = value_of all_of (times n m s k) (e ∙ all_made)
 

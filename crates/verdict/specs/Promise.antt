@@ -4,7 +4,7 @@ use Rattle.std.specs.Prelude.{◌≡◌, refl, List, [], ◌∷◌, map, ℕ, �
 use Rattle.std.proofs.Common.{sym, ap, ◌∙◌, arith}
 use Rattle.std.proofs.lemmas.List.{length-map}
 use Rattle.std.proofs.Math.ListN.{get_or-map}
-use Rattle.arrayvec.specs.ArrayVec.{ArrayVec}
+use Rattle.series.specs.Series.{Series}
 use Rattle.paper.specs.Check as paper
 use Rattle.paper.specs.Text.{Read, good, bad, whole}
 use Rattle.paper.specs.Certificate.{Verdict, accepted, refused, judged}
@@ -21,7 +21,7 @@ use Rattle.verdict.specs.Checks.{slack_numbers, checked_of, Checks}
 
 -- what a check gives
 abbrev Given : Type 0
-Given = Result (ArrayVec Units) Refusal
+Given = Result (Series Units) Refusal
 
 -- two results that meet the promise coincide
 pub one_result : (text : List ℕ) (r r' : Given) → Checks text r → Checks text r' → r ≡ r'
@@ -34,7 +34,7 @@ one_result text r r' h h' = same r r' (h ∙ sym h')
     held : List Units → Given
     held l = Ok (record { items = l })
 
-    no_refusal : {a : Refusal} {s : ArrayVec Units} → ◌≡◌ {A = Answer} Done (Err a) → ◌≡◌ {A = Given} (Ok s) (Err a)
+    no_refusal : {a : Refusal} {s : Series Units} → ◌≡◌ {A = Answer} Done (Err a) → ◌≡◌ {A = Given} (Ok s) (Err a)
     no_refusal e = let z : ◌≡◌ {A = ℕ} 0 1 = cc in absurd (omega arith)
 
     same : (r r' : Given) → checked_of r ≡ checked_of r' → r ≡ r'
@@ -51,7 +51,7 @@ one_result text r r' h h' = same r r' (h ∙ sym h')
 
 -- what an accepted text comes back with: one slack for each task, q times r less its demand
 pub record Told (b : Board) (r : Given) : Type 0 where
-  pub slacks : ArrayVec Units
+  pub slacks : Series Units
   pub done : r ≡ Ok slacks
   pub count : length slacks.items ≡ length b.tasks
   pub slack : (i : ℕ) → i < length b.tasks → get_or slacks.items i (units 0) ≡ units (slack_of b.speeds (take i b.tasks) (task b i))

@@ -1,7 +1,7 @@
 -- The check's ways out, one after another: each is the paper's answer. Assumes nothing.
 use Rattle.std.specs.Prelude.{◌≡◌, refl, List, [], ◌∷◌, map, ℕ, zero, suc, Some, None, Result, Ok, Err}
 use Rattle.std.proofs.Common.{ap, arith}
-use Rattle.arrayvec.specs.ArrayVec.{ArrayVec}
+use Rattle.series.specs.Series.{Series}
 use Rattle.paper.specs.Board as paper
 use Rattle.paper.specs.Certificate.{Verdict, accepted, refused, walk, rising, unless_rising, judged}
 use Rattle.paper.specs.Check.{checked_as, check_read, check}
@@ -56,7 +56,7 @@ module _ {text : List ℕ} {b : Board} (f : Held text b) where
   -- no speed rises: the tasks decide
   module _
       (e : first_of (rising 1 here.speeds) ≡ None)
-      {j : Result (ArrayVec Units) Refusal}
+      {j : Result (Series Units) Refusal}
       (i : j ≡ packed_verdict (walk here.speeds [] here.tasks)) where
     same : judged here ≡ walk here.speeds [] here.tasks
     unfolding judged unless_rising
@@ -75,5 +75,5 @@ module _ {text : List ℕ} {b : Board} (f : Held text b) where
     out_task h = rw h at tasks_decide
 
     -- all tasks pass
-    pub all_pass : {slacks : ArrayVec Units} → j ≡ Ok slacks → Checks text (Ok slacks)
+    pub all_pass : {slacks : Series Units} → j ≡ Ok slacks → Checks text (Ok slacks)
     all_pass h = rw h at tasks_decide

@@ -3,12 +3,12 @@
 
 ghost use Rattle.verdict.specs.Checks.{Checks};
 
-use arrayvec::ArrayVec;
 use paper::Refusal;
 use quantity::Units;
+use series::Series;
 
 // One slack for each task.
-pub type Slacks = ArrayVec<Units, 96>;
+pub type Slacks = Series<Units, 96>;
 
 // First all lines, then the speeds, then the tasks from 1 up.
 pub fn check(text: &[u8]) -> Result<Slacks, Refusal>

@@ -220,7 +220,7 @@ loop-i-preserved c =
     let a = (goal.at.loop-i-preserved c).After-min-last in
     let s = (goal.at.loop-i-preserved c).After-slack_of in
     let n = rw (c.deref-task-items.ensures.0, c.deref-in-loop-i.ensures.0) at (c.in-Some-slack_of.ensures (speeds_in b) (fastest_is s)) in
-    rw (c.push.ensures.items, n.1)
+    rw (c.push.ensures, n.1)
     (way_on b c.loop-i.invariant (more a) (d_in a) (r_in a) c.min-last.result (last_is a) _ (covered_all s (few a)) refl n.0)
 
 pub returns : goal.returns

@@ -37,23 +37,23 @@ returns-in_err-count-clause-read c =
     (reads_bad _ (stops _ _ _ c.in_err-count.ensures.read)))))
     (search rules)
 
-pub returns-in_err-tasks-clause-read : goal.returns-in_err-tasks-clause-read
+pub returns-in_err-many-clause-read : goal.returns-in_err-many-clause-read
 unfolding bytes bytes_from read_board
-returns-in_err-tasks-clause-read c =
+returns-in_err-many-clause-read c =
     let speeds = counted speed (one (line "s=" 1 100)) _ _ _ c.in_ok-speeds.ensures.read in
     stopped _ _
     (reads_bad _
     (stops_on _ c.in_ok-procs.ensures.read
     (stops_on _ speeds.same
     (stops_on _ c.in_ok-count.ensures.read
-    (reads_bad _ (stops_counted packed_task read_task _ _ _ (stops _ _ _ c.in_err-tasks.ensures.read)))))))
+    (reads_bad _ (stops_counted packed_task read_task _ _ _ (stops _ _ _ c.in_err-many.ensures.read)))))))
     (search rules)
 
 pub returns-clause-read : goal.returns-clause-read
 unfolding bytes bytes_from read_board packed
 returns-clause-read c =
     let speeds = counted speed (one (line "s=" 1 100)) _ _ _ c.in_ok-speeds.ensures.read in
-    let tasks = counted packed_task read_task _ _ _ c.in_ok-tasks.ensures.read in
+    let tasks = counted packed_task read_task _ _ _ c.in_ok-many.ensures.read in
     rw (speeds.made, tasks.made)
     (reads_on _
     (reads_on _ c.in_ok-procs.ensures.read

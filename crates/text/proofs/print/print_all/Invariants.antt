@@ -5,6 +5,6 @@ use Rattle.text.proofs.print.print_all.Given as goal
 
 abbrev pub invariant-loop-number : goal.invariant-loop-number
 invariant-loop-number g l = record {
-  room : length l.out.items + (length l.key + 21) * length l.numbers ≤ g.row.N + (length l.key + 21) * l.number-index;
-  lines : Lines g.T.Into.converts g.row.N l.fn.out.items l.key (take l.number-index l.numbers) l.out.items;
+  room : l.end + (length l.key + 21) * length l.numbers ≤ length l.fn.out + (length l.key + 21) * l.number-index;
+  lines : Lines g.T.Into.converts l.fn.out l.at l.key (take l.number-index l.numbers) l.out l.end;
 }

@@ -1,34 +1,29 @@
--- A line is its key, its digits and LF, appended one after the other; the digits that the library gives are the paper's.
-use Rattle.std.proofs.Common.{◌≡◌, ℕ, ◌^◌, ◌<◌, ◌++◌, length, sym, ap, ◌∙◌, rules, arith, append_assoc, length-append, lt-ltb, le-ltb}
-use Rattle.std.specs.Fmt as std
-use Rattle.std.proofs.lemmas.Fmt.{AppendsLastDigit, decimal_from_appends, length-decimal-le}
-use Rattle.paper.specs.Basics.{decimal, decimal_in}
-use Rattle.text.specs.Printing.{line_bytes}
-use Rattle.text.specs.Placing.{line_short}
+-- A line is its key, its digits and LF, each written where the one before it ends; the digits that the library gives are the paper's.
+use Rattle.std.proofs.Common.{◌≡◌, ℕ, List, [], ◌∷◌, ◌++◌, ◌+◌, ◌-◌, ◌^◌, ◌<◌, ◌≤◌, length, ap, sym, ◌∙◌, rules, arith}
+use Rattle.paper.specs.Basics.{decimal}
+use Rattle.paper.proofs.Laws.Decimal.{decimal-length}
+use Rattle.text.specs.Placing.{placed_part, placed_as, placed_one, placed_then, placed_length}
+use Rattle.text.proofs.Decimals.{same_digits}
 use Rattle.text.proofs.print.print_line.Goals as goal
 
-appends : AppendsLastDigit decimal_in
-unfolding decimal_in
-appends = record {
-  one = λ most n h. rw (lt-ltb n 10 h);
-  more = λ most n h. rw (le-ltb n 10 h);
-}
-
-same_digits : (n : ℕ) → n < 2 ^ 64 → decimal n ≡ std.decimal n
-unfolding decimal
-same_digits n h = decimal_from_appends decimal_in appends 20 n h (length-decimal-le 20 n (omega arith) (omega arith) h)
-
 pub returns : goal.returns
-returns g c =
+unfolding decimal
+returns c =
     let few : c.args.value < 2 ^ 64 = search rules in
-    let out = c.args.out.now.items in
-    let key = rw c.unwrap.ensures at c.try_extend_from_slice.ensures.ok in
-    let more = rw c.unwrap-2.ensures at c.try_extend_from_slice-2.ensures.ok in
-    let digits = c.as_bytes.ensures.value ∙ c.format.ensures.text ∙ sym (same_digits c.args.value few) in
-    let same : c.push.new.self.items ≡ out ++ line_bytes c.args.key.now c.args.value
-    = c.push.ensures.items ∙ rw (more, key, digits) (simp append_assoc) in
-    let long = ap length same ∙ length-append out (line_bytes c.args.key.now c.args.value) in
+    let old = c.args.out.now in
+    let at = c.args.at in
+    let key = c.args.key.now in
+    let written = c.as_bytes-digits.result.now in
+    let digits : written ≡ decimal c.args.value
+    = c.as_bytes-digits.ensures.value ∙ c.format.ensures.text ∙ sym (same_digits c.args.value few) in
+    let short : length written ≤ 20 = rw digits (decimal-length 20 c.args.value) in
+    let first = placed_part old at (at + length key - at) key c.copy_from_slice.new.self c.copy_from_slice.ensures.after (omega arith) (omega arith) in
+    let long = placed_length first in
+    let second =
+    placed_part _ (at + length key) (at + length key + length written - (at + length key)) written c.copy_from_slice-2.new.self
+    c.copy_from_slice-2.ensures.after (omega arith) (omega (arith, long)) in
+    let both = placed_then first second in
     record {
-      printed = λ h. record { same = same; fits = omega (arith, long, line_short c.args.key.now c.args.value) };
+      printed = λ h. placed_as (ap (λ (l : List ℕ). (key ++ l) ++ (10 ∷ [])) digits) (placed_one both 10 (omega (arith, long, placed_length second)));
       none = λ h. absurd (omega arith);
     }

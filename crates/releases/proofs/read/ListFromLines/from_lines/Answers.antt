@@ -7,12 +7,12 @@ use Rattle.text.specs.Counted.{counted, stops_counted}
 use Rattle.releases.specs.Packed.{packed_release, packed_list}
 use Rattle.releases.proofs.read.ListFromLines.from_lines.Goals as goal
 
-pub returns-in_err-next-clause-read : goal.returns-in_err-next-clause-read
+pub returns-in_err-single-clause-read : goal.returns-in_err-single-clause-read
 unfolding bytes bytes_from read_releases
-returns-in_err-next-clause-read c =
+returns-in_err-single-clause-read c =
     stopped _ _
     (reads_bad _
-    (reads_bad _ (stops _ _ _ c.in_err-next.ensures.read)))
+    (reads_bad _ (stops _ _ _ c.in_err-single.ensures.read)))
     (search rules)
 
 pub returns-in_err-count-clause-read : goal.returns-in_err-count-clause-read
@@ -20,27 +20,27 @@ unfolding bytes bytes_from read_releases
 returns-in_err-count-clause-read c =
     stopped _ _
     (reads_bad _
-    (stops_on _ c.in_ok-next.ensures.read
+    (stops_on _ c.in_ok-single.ensures.read
     (reads_bad _ (stops _ _ _ c.in_err-count.ensures.read))))
     (search rules)
 
-pub returns-in_err-releases-clause-read : goal.returns-in_err-releases-clause-read
+pub returns-in_err-many-clause-read : goal.returns-in_err-many-clause-read
 unfolding bytes bytes_from read_releases
-returns-in_err-releases-clause-read c =
+returns-in_err-many-clause-read c =
     stopped _ _
     (reads_bad _
-    (stops_on _ c.in_ok-next.ensures.read
+    (stops_on _ c.in_ok-single.ensures.read
     (stops_on _ c.in_ok-count.ensures.read
-    (reads_bad _ (stops_counted packed_release read_release _ _ _ (stops _ _ _ c.in_err-releases.ensures.read))))))
+    (reads_bad _ (stops_counted packed_release read_release _ _ _ (stops _ _ _ c.in_err-many.ensures.read))))))
     (search rules)
 
 pub returns-clause-read : goal.returns-clause-read
 unfolding bytes bytes_from read_releases packed_list
 returns-clause-read c =
-    let releases = counted packed_release read_release _ _ _ c.in_ok-releases.ensures.read in
+    let releases = counted packed_release read_release _ _ _ c.in_ok-many.ensures.read in
     rw releases.made
     (reads_on _
-    (reads_on _ c.in_ok-next.ensures.read
+    (reads_on _ c.in_ok-single.ensures.read
     (reads_on _ c.in_ok-count.ensures.read
     (reads_on _ releases.same
     refl)))
