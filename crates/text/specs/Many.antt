@@ -1,7 +1,12 @@
 -- What is read by count.
 use Rattle.std.specs.Prelude.{List}
+use Rattle.arrayvec.specs.ArrayVec.{ArrayVec}
 use Rattle.series.specs.Series.{Series}
 
 -- a list as the code holds it
-abbrev pub array_of : {A : Type 0} → List A → Series A
+abbrev pub array_of : {A : Type 0} → List A → ArrayVec A
 array_of items = record { items = items }
+
+-- the same in a series
+abbrev pub series_of : {A : Type 0} → List A → Series A
+series_of items = record { items = items }

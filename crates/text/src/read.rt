@@ -6,8 +6,8 @@ ghost use Rattle.text.specs.Lines.{Reads, held, whole_by};
 ghost use Rattle.text.specs.Many.{array_of};
 
 use crate::{BadLine, Lines, keys};
+use arrayvec::ArrayVec;
 use quantity::Speed;
-use series::{Blank, Series};
 
 // What is read from lines of its own.
 pub trait FromLines: Sized {
@@ -33,17 +33,18 @@ impl FromLines for Speed {
     }
 }
 
-// `count` of them, one after the other.
-pub fn many<T: FromLines + Blank + Copy, const N: usize>(
+// `count` of them, one after the other. What a board or a list has lies in a series (`counted`), which is copied; this is for what
+// cannot be.
+pub fn many<T: FromLines + Default + Drop, const N: usize>(
     lines: &mut Lines,
     count: u32,
-) -> Result<Series<T, N>, BadLine>
+) -> Result<ArrayVec<T, N>, BadLine>
     requires room { count ≤ N }
     requires few { lines.old.number + count * T.most_lines < 2 ^ 32 }
     ensures read { Reads (held array_of (times count T.reader)) lines.old.rest.now lines.old.number result lines.new.rest.now lines.new.number }
     ensures lines { lines.new.number ≤ lines.old.number + count * T.most_lines }
 {
-    let mut items = Series::new();
+    let mut items = ArrayVec::new();
     for _ in 0..count {
         items.push(T::from_lines(lines)?);
     }

@@ -13,7 +13,7 @@ returns-in_err-from_lines-clause-read g c =
 
 pub loop-preserved : goal.loop-preserved
 loop-preserved g c =
-    let e = c.push.ensures in
+    let e = c.push.ensures.items in
     let r = c.in_ok-from_lines.ensures in
     rw e
     (record {

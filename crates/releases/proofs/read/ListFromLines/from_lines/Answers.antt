@@ -3,7 +3,7 @@ use Rattle.std.proofs.Common.{rules, refl}
 use Rattle.paper.specs.Basics.{bytes, bytes_from}
 use Rattle.paper.specs.Releases.{read_release, read_releases}
 use Rattle.text.specs.Reading.{reads_on, reads_bad, stops, stops_on, stopped}
-use Rattle.text.specs.Counted.{counted, stops_counted}
+use Rattle.text.specs.Counted.{counted_in_series, stops_in_series}
 use Rattle.releases.specs.Packed.{packed_release, packed_list}
 use Rattle.releases.proofs.read.ListFromLines.from_lines.Goals as goal
 
@@ -24,20 +24,20 @@ returns-in_err-count-clause-read c =
     (reads_bad _ (stops _ _ _ c.in_err-count.ensures.read))))
     (search rules)
 
-pub returns-in_err-many-clause-read : goal.returns-in_err-many-clause-read
+pub returns-in_err-read_series-clause-read : goal.returns-in_err-read_series-clause-read
 unfolding bytes bytes_from read_releases
-returns-in_err-many-clause-read c =
+returns-in_err-read_series-clause-read c =
     stopped _ _
     (reads_bad _
     (stops_on _ c.in_ok-single.ensures.read
     (stops_on _ c.in_ok-count.ensures.read
-    (reads_bad _ (stops_counted packed_release read_release _ _ _ (stops _ _ _ c.in_err-many.ensures.read))))))
+    (reads_bad _ (stops_in_series packed_release read_release _ _ _ (stops _ _ _ c.in_err-read_series.ensures.read))))))
     (search rules)
 
 pub returns-clause-read : goal.returns-clause-read
 unfolding bytes bytes_from read_releases packed_list
 returns-clause-read c =
-    let releases = counted packed_release read_release _ _ _ c.in_ok-many.ensures.read in
+    let releases = counted_in_series packed_release read_release _ _ _ c.in_ok-read_series.ensures.read in
     rw releases.made
     (reads_on _
     (reads_on _ c.in_ok-single.ensures.read
