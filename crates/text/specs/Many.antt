@@ -3,10 +3,10 @@ use Rattle.std.specs.Prelude.{List}
 use Rattle.arrayvec.specs.ArrayVec.{ArrayVec}
 use Rattle.series.specs.Series.{Series}
 
--- a list as the code holds it
+-- a list as the code holds it in an array
 abbrev pub array_of : {A : Type 0} → List A → ArrayVec A
 array_of items = record { items = items }
 
--- the same in a series
+-- and in a series
 abbrev pub series_of : {A : Type 0} → List A → Series A
 series_of items = record { items = items }

@@ -1,4 +1,4 @@
-// Reading as many as a line has counted into a series, as a board and a release list hold them.
+// Reading into a series as many as a line has counted: so a board and a release list hold them.
 ghost use Rattle.std.specs.Prelude.{◌≡◌, ◌+◌, ◌*◌, ◌^◌, ◌≤◌, ◌<◌};
 ghost use Rattle.paper.specs.Text.{times};
 ghost use Rattle.text.specs.Lines.{Reads, held};

@@ -33,8 +33,8 @@ impl FromLines for Speed {
     }
 }
 
-// `count` of them, one after the other. What a board or a list has lies in a series (`counted`), which is copied; this is for what
-// cannot be.
+// `count` of them, one after the other, in the kit's array, which asks no `Copy`. Boards and release lists are read into a series
+// (`counted::read_series`).
 pub fn many<T: FromLines + Default + Drop, const N: usize>(
     lines: &mut Lines,
     count: u32,
