@@ -15,7 +15,8 @@ pub fn read_series<T: FromLines + Blank + Copy, const N: usize>(
 ) -> Result<Series<T, N>, BadLine>
     requires room { count ≤ N }
     requires few { lines.old.number + count * T.most_lines < 2 ^ 32 }
-    ensures read { Reads (held series_of (times count T.reader)) lines.old.rest.now lines.old.number result lines.new.rest.now lines.new.number }
+    ensures read { Reads (held series_of (times count T.reader)) lines.old.rest.now lines.old.number
+        result lines.new.rest.now lines.new.number }
     ensures lines { lines.new.number ≤ lines.old.number + count * T.most_lines }
 {
     let mut items = Series::new();
